@@ -6,9 +6,10 @@
 --   Verdict          accepted, or the fault
 --   refuse-if        a check: refused with this fault exactly where the test holds
 --   and-then         two checks in their order: the first that refuses decides
+--   each             a check of every element of a list, numbered from i on: the first that is refused decides
 use mathlib.Core.Bool.{Bool, true, false}
-use mathlib.Core.List.{List}
-use Prim.Native.Nat.{ℕ}
+use mathlib.Core.List.{List, [], _∷_}
+use Prim.Native.Nat.{ℕ, _+_}
 use lib.Chars.{codes}
 use Rattle.std.specs.declared.result.Result.{Result}
 use Rattle.std.specs.declared.result.Result.the-variants.{Ok, Err}
@@ -57,3 +58,7 @@ refuse-if false f = Ok tt
 abbrev pub and-then : Verdict → Verdict → Verdict
 and-then (Ok u) next = next
 and-then (Err f) next = Err f
+
+abbrev pub each : {A : Type 0} → (ℕ → A → Verdict) → ℕ → List A → Verdict
+each check i [] = Ok tt
+each check i (x ∷ xs) = and-then (check i x) (each check (i + 1) xs)

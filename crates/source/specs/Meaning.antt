@@ -6,6 +6,7 @@
 --   count-of        how many modules there are
 --   module-at, records-of, records-in, record-at, look-at   the look-ups: a module's description, its records,
 --                   their number, one of them, and that one's kind and target together
+--   no-modules      what stands for input that a check refuses: no modules, and 0 for the runtime
 --   past-modules    what a look-up finds past the last module: an external one
 --   past-records    what it finds past the last record: an unresolved `HotAccept` at 0 to 0 without star
 use mathlib.Core.Path.{_≡_}
@@ -28,6 +29,9 @@ pub record Scanned : Type 0 where
 pub record Meaning : Type 0 where
   pub runtime : ℕ
   pub modules : List Scanned
+
+abbrev pub no-modules : Meaning
+no-modules = record { runtime = 0; modules = [] }
 
 abbrev pub past-modules : Scanned
 past-modules = record { described = External; records = [] }
