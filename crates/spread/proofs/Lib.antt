@@ -1,0 +1,11 @@
+pub mod OrAssoc
+pub mod Order
+pub mod Steps
+pub mod Counts
+pub mod Paths
+pub mod Rounds
+pub mod Checks
+pub mod Laws
+pub mod YesNos
+pub mod EntrySets
+pub mod Ranks
