@@ -17,6 +17,7 @@ use Rattle.marks.proofs.Records.{points-in, normal-below}
 use Rattle.spread.specs.declared.arrow.Arrow.{Arrow}
 use Rattle.spread.specs.Leads.{no-arrow}
 use Rattle.ways.specs.declared.Way.{Way}
+use Rattle.ways.proofs.Sweeps.{Before}
 use Rattle.ways.specs.Ways.{followed, Leaving, Step, drawn, record-total, All, CopiedUpTo}
 
 abbrev pub long : Scanned → ℕ
@@ -26,10 +27,7 @@ long s = length (s .records)
 pub room : (w : Meaning) (m k n size : ℕ) → m < count-of w → k < records-in w m → record-total w ≤ size → n ≤ sumBy long (take m (w .modules)) + k → n < size
 room w m k n size h i fits le = omega (arith, sumBy-more long (w .modules) m past-modules h, sumBy-take-le long (w .modules) (m + 1))
 
--- what is done before module m, and before its record k
-abbrev pub Before : ℕ → ℕ → ℕ → Type 0
-Before m a j = a < m
-
+-- what is done before record k of module m
 abbrev pub Within : ℕ → ℕ → ℕ → ℕ → Type 0
 Within m k a j = (a < m) ⊎ ((a ≡ m) × (j < k))
 

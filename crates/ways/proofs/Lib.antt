@@ -1,2 +1,4 @@
 pub mod Copies
 pub mod Turns
+pub mod Sweeps
+pub mod Pointed

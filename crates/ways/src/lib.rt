@@ -4,12 +4,18 @@ ghost use Prim.Native.Nat.{_≤_};
 ghost use lib.ListN.{length};
 ghost use Rattle.source.specs.Meaning.{count-of, record-at};
 ghost use Rattle.ways.specs.Ways.{is-import, brings, followed, drawn, record-total, Targets, Copied, Carried};
+
+mod targets;
+
 use source::ImportKind;
 use source::Module;
 use source::ModuleSource;
 use spread::Arrow;
 use spread::Fact;
 use spread::spread;
+pub use targets::Pick;
+pub use targets::clear;
+pub use targets::point_at;
 
 /// What is asked of the records: which of them lead on, and whether facts go with them or against them.
 #[derive(Clone, Copy)]

@@ -2,7 +2,8 @@ use Prim.Native.Nat.{_+_, _≤_}
 use lib.ListN.{take}
 use Rattle.std.specs.shelf.Lists.{sumBy}
 use Rattle.ways.specs.Ways.{CopiedUpTo}
-use Rattle.ways.proofs.Copies.{Before, Within, long}
+use Rattle.ways.proofs.Copies.{Within, long}
+use Rattle.ways.proofs.Sweeps.{Before}
 use Rattle.ways.proofs.copy_arrows.Given as given
 
 abbrev pub Inv-loop-m : given.InvT-loop-m
