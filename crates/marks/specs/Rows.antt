@@ -4,12 +4,13 @@
 --   kind-in, wrap-in, wrapped-in, required-in, dynamic-in, awaiting-in, entries-in   how it reads
 --   keeps-rule                                      a row that reads as it stands
 --   Raised P old new                                yes exactly where it was yes, or P holds
+--   Written n Row old new                           the first n rows are written, each as Row says; the others stay
 use mathlib.Core.Path.{_≡_}
 use mathlib.Core.Bool.{Bool, true}
 use mathlib.Core.List.{List}
 use mathlib.Core.Logic.{_⊎_}
-use Prim.Native.Nat.{ℕ}
-use lib.ListN.{getD}
+use Prim.Native.Nat.{ℕ, _<_, _≤_}
+use lib.ListN.{length, getD}
 use Rattle.source.specs.declared.ExportsKind.{ExportsKind}
 use Rattle.source.specs.declared.ExportsKind.the-variants.{None as Unknown}
 use Rattle.marks.specs.declared.rows.MarkRow.{MarkRow}
@@ -47,3 +48,8 @@ pub record Raised (P : Type 0) (old new : Bool) : Type 0 where
   pub kept : old ≡ true → new ≡ true
   pub made : P → new ≡ true
   pub only : new ≡ true → (old ≡ true) ⊎ P
+
+pub record Written (n : ℕ) (Row : ℕ → MarkRow → MarkRow → Type 0) (old new : List MarkRow) : Type 0 where
+  pub long : length new ≡ length old
+  pub each : (m : ℕ) → m < n → Row m (row-at old m) (row-at new m)
+  pub rest : (m : ℕ) → n ≤ m → row-at new m ≡ row-at old m

@@ -6,9 +6,11 @@
 --   Picked        a record of a to t is one that is picked
 --   PointedAt     flags are raised at the targets of records that are picked, and nowhere else
 --   Cleared       the flags of the first n modules are no
+--   Filled        the flags of the first n modules are yes exactly where P holds
 use mathlib.Core.Path.{_≡_}
 use mathlib.Core.Bool.{Bool, true, false, _&&_, _||_}
 use mathlib.Core.List.{List}
+use mathlib.Core.Logic.{_↔_}
 use Prim.Native.Nat.{ℕ, _<_, _≤_}
 use lib.ListN.{length, getD}
 use Rattle.source.specs.declared.ImportKind.{ImportKind}
@@ -57,3 +59,6 @@ pub record PointedAt (pick : Pick) (w : Meaning) (from : ℕ → Bool) (old new 
 pub record Cleared (n : ℕ) (old new : List YesNo) : Type 0 where
   pub long : length new ≡ length old
   pub clear : (m : ℕ) → m < n → flag new m ≡ false
+
+abbrev pub Filled : ℕ → (ℕ → Type 0) → List YesNo → Type 0
+Filled n P flags = (m : ℕ) → m < n → (flag flags m ≡ true) ↔ P m
