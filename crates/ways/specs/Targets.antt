@@ -8,10 +8,11 @@
 --   Cleared       the flags of the first n modules are no
 --   Filled        the flags of the first n modules are yes exactly where P holds
 use mathlib.Core.Path.{_≡_}
-use mathlib.Core.Bool.{Bool, true, false, _&&_, _||_}
+use mathlib.Core.Bool.{Bool, true, false, not, _&&_, _||_}
 use mathlib.Core.List.{List}
 use mathlib.Core.Logic.{_↔_}
 use Prim.Native.Nat.{ℕ, _<_, _≤_}
+use lib.Dec.{eqb}
 use lib.ListN.{length, getD}
 use Rattle.source.specs.declared.ImportKind.{ImportKind}
 use Rattle.source.specs.declared.ImportKind.the-variants.{Import, Require, DynamicImport, AtImport, UrlImport, NewUrl, HotAccept}
@@ -45,7 +46,7 @@ is-require HotAccept = false
 abbrev pub picked : Pick → Meaning → (ℕ → Bool) → ℕ → ImportRecord → ℕ → Bool
 picked Every w from m r t = true
 picked Stars w from m r t = r .star
-picked Required w from m r t = is-require (r .kind) && (is-normal (module-at w t) || from m)
+picked Required w from m r t = is-require (r .kind) && (is-normal (module-at w t) || (not (eqb m (w .runtime)) && from m))
 
 pub record Picked (pick : Pick) (w : Meaning) (from : ℕ → Bool) (a j t : ℕ) : Type 0 where
   pub kind : ImportKind

@@ -18,7 +18,7 @@ pub enum Pick {
     Every,
     /// Star records.
     Stars,
-    /// `Require` records to a normal module, and to an external one from an importer with a yes.
+    /// `Require` records to a normal module, and to an external one from an importer with a yes, the runtime aside.
     Required,
 }
 
@@ -57,7 +57,8 @@ fn picks<S: ModuleSource>(
     match pick {
         Pick::Every => true,
         Pick::Stars => source.record(m, k).star,
-        Pick::Required => is_require(kind) & (is_normal(source.module(t)) | from[m].0),
+        Pick::Required => is_require(kind)
+            & (is_normal(source.module(t)) | ((m != source.runtime() as usize) & from[m].0)),
     }
 }
 

@@ -89,6 +89,12 @@ impl Mark {
         self.wrap
     }
 
+    pub fn required(self) -> bool
+        ensures { λ r. ⌜ r ≡ row-of self .required ⌝ }
+    {
+        self.required
+    }
+
     pub fn is_wrapped(self) -> bool
         ensures { λ r. ⌜ r ≡ is-wrapped (row-of self .wrap) ⌝ }
     {
