@@ -1,0 +1,5 @@
+pub mod Cuts
+pub mod Found
+pub mod Digits
+pub mod Blocks
+pub mod Whole
