@@ -5,14 +5,22 @@ ghost use Rattle.std.specs.Vec.{made};
 ghost use Rattle.commands.specs.Reports.{Quiet, Whole, fault-text};
 use crate::errors::AllocIntoCommandError;
 use crate::errors::CommandError;
-use crate::files::read_table_file;
+use crate::files::Contents;
+use crate::files::read_contents;
+use crate::files::write_file;
 use crate::report::Report;
+use card::CardModuleSource;
+use card::CardSource;
+use card::check_card;
+use card_writer::write_card;
 use faults::Fault;
 use row_source::RowModuleSource;
 use row_source::RowSource;
 use row_source::check_rows;
+use source::ModuleSource;
 use std::alloc::AllocError;
 use std::alloc::Global;
+use table::Table;
 use table::write_table;
 
 const HELP: &str =
@@ -20,12 +28,14 @@ const HELP: &str =
 
 usage: tuchovai COMMAND ..
 
-  show FILE      prints the modules of FILE as a text table
-  check FILE     says whether FILE holds a source, or the first fault
-  help           prints this text
-  --version      prints the version
+  pack TABLE CARD   writes the source of a text table as a card
+  show FILE         prints the modules of FILE as a text table
+  check FILE        says whether FILE holds a source, or the first fault
+  help              prints this text
+  --version         prints the version
 
-FILE is a text table. Status 1 says that FILE was refused or that the words were not understood.
+FILE is a card where its name ends in .card, a text table where it ends in .table, and else told by its first four bytes.
+Status 1 says that a file was refused or that the words were not understood.
 ";
 
 const VERSION: &str = "tuchovai 0.1.0\n";
@@ -58,6 +68,10 @@ fn run_command(rt: &LibcRuntime, words: &[String]) -> Result<Report, CommandErro
         ("--version", [_]) => Ok(said(heap, VERSION)?),
         ("show", [_, path]) => show(rt, path.as_str()),
         ("check", [_, path]) => check(rt, path.as_str()),
+        ("pack", [_, from, to]) => pack(rt, from.as_str(), to.as_str()),
+        ("pack", _) => Err(CommandError::Message(
+            format!(heap, "usage: tuchovai pack TABLE CARD")?,
+        )),
         ("show" | "check", _) => Err(CommandError::Message(
             format!(heap, "usage: tuchovai {command} FILE")?,
         )),
@@ -73,57 +87,133 @@ fn run_command(rt: &LibcRuntime, words: &[String]) -> Result<Report, CommandErro
 fn said(heap: Global, text: &str) -> Result<Report, AllocError>
     ensures { λ r. ⌜ made r Quiet ⌝ }
 {
-    Ok(Report {
-        out: String::from_str(heap, text)?,
+    Ok(quiet(heap, String::from_str(heap, text)?, false))
+}
+
+fn quiet(heap: Global, out: String, failed: bool) -> Report
+    ensures { λ r. ⌜ Quiet r ⌝ }
+{
+    Report {
+        out,
         err: String::new(heap),
-        failed: false,
-    })
+        failed,
+    }
+}
+
+// A file that is refused has nothing to be shown or packed.
+fn refusal(heap: Global, path: &str, fault: &Fault) -> Result<CommandError, AllocError> {
+    let words = fault_words(heap, fault)?;
+    Ok(CommandError::Message(format!(heap, "{path}: refused {words}")?))
 }
 
 fn show(rt: &LibcRuntime, path: &str) -> Result<Report, CommandError>
     ensures { λ r. ⌜ made r Quiet ⌝ }
 {
     let heap = rt.alloc();
-    let table = read_table_file(rt, path)?;
-    if let Err(fault) = check_rows(table.modules.as_slice(), table.records.as_slice()) {
-        let fault = fault_words(heap, &fault)?;
-        return Err(CommandError::Message(format!(heap, "{path}: refused {fault}")?));
+    let out = match read_contents(rt, path)? {
+        Contents::Rows(table) => {
+            let (modules, records) = (table.modules.as_slice(), table.records.as_slice());
+            if let Err(fault) = check_rows(modules, records) {
+                return Err(refusal(heap, path, &fault)?);
+            }
+            write_table(heap, &RowSource::open(table.runtime, modules, records))?
+        }
+        Contents::Image(image) => {
+            if let Err(fault) = check_card(image.as_slice()) {
+                return Err(refusal(heap, path, &fault)?);
+            }
+            write_table(heap, &CardSource::open(image.as_slice()))?
+        }
+    };
+    Ok(quiet(heap, out, false))
+}
+
+// The counts of an accepted source, or its first fault.
+fn verdict_line<S: ModuleSource>(
+    heap: Global,
+    verdict: Result<(), Fault>,
+    source: &S,
+) -> Result<Report, AllocError>
+    ensures { λ r. ⌜ made r Quiet ⌝ }
+{
+    let out = match verdict {
+        Ok(()) => {
+            let modules = source.module_count();
+            let records = record_total(source);
+            format!(
+                heap,
+                "check answer=accepted modules={modules} records={records}\n"
+            )?
+        }
+        Err(fault) => {
+            let fault = fault_words(heap, &fault)?;
+            format!(heap, "check answer=refused {fault}\n")?
+        }
+    };
+    Ok(quiet(heap, out, verdict.is_err()))
+}
+
+fn record_total<S: ModuleSource>(source: &S) -> usize {
+    let mut total: usize = 0;
+    for m in 0..source.module_count() {
+        total = total.saturating_add(source.record_count(m));
     }
-    let source = RowSource::open(
-        table.runtime,
-        table.modules.as_slice(),
-        table.records.as_slice(),
-    );
-    Ok(Report {
-        out: write_table(heap, &source)?,
-        err: String::new(heap),
-        failed: false,
-    })
+    total
 }
 
 fn check(rt: &LibcRuntime, path: &str) -> Result<Report, CommandError>
     ensures { λ r. ⌜ made r Quiet ⌝ }
 {
     let heap = rt.alloc();
-    let table = read_table_file(rt, path)?;
+    match read_contents(rt, path)? {
+        Contents::Rows(table) => {
+            let (modules, records) = (table.modules.as_slice(), table.records.as_slice());
+            let source = RowSource::open(table.runtime, modules, records);
+            Ok(verdict_line(heap, check_rows(modules, records), &source)?)
+        }
+        Contents::Image(image) => {
+            let source = CardSource::open(image.as_slice());
+            Ok(verdict_line(heap, check_card(image.as_slice()), &source)?)
+        }
+    }
+}
+
+// The card's image of rows, or why there is none.
+fn image_of(heap: Global, path: &str, table: &Table) -> Result<Vec<u8>, CommandError> {
+    let (modules, records) = (table.modules.as_slice(), table.records.as_slice());
+    if let Err(fault) = check_rows(modules, records) {
+        return Err(refusal(heap, path, &fault)?);
+    }
+    let source = RowSource::open(table.runtime, modules, records);
+    let size = 16usize
+        .saturating_add(modules.len().saturating_mul(24))
+        .saturating_add(records.len().saturating_mul(18));
+    let mut image = vec![in heap; 0u8; size]?;
+    match write_card(&source, image.as_mut_slice()) {
+        Ok(_) => Ok(image),
+        Err(fault) => Err(refusal(heap, path, &fault)?),
+    }
+}
+
+fn pack(rt: &LibcRuntime, from: &str, to: &str) -> Result<Report, CommandError>
+    ensures { λ r. ⌜ made r Quiet ⌝ }
+{
+    let heap = rt.alloc();
+    let Contents::Rows(table) = read_contents(rt, from)? else {
+        return Err(CommandError::Message(
+            format!(heap, "{from}: a card already; pack takes a text table")?,
+        ));
+    };
+    let image = image_of(heap, from, &table)?;
+    write_file(rt, to, image.as_slice())?;
     let modules = table.modules.len();
     let records = table.records.len();
-    let verdict = check_rows(table.modules.as_slice(), table.records.as_slice());
-    let out = match verdict {
-        Ok(()) => format!(
-            heap,
-            "check answer=accepted modules={modules} records={records}\n"
-        )?,
-        Err(fault) => {
-            let fault = fault_words(heap, &fault)?;
-            format!(heap, "check answer=refused {fault}\n")?
-        }
-    };
-    Ok(Report {
-        out,
-        err: String::new(heap),
-        failed: verdict.is_err(),
-    })
+    let bytes = image.len();
+    let out = format!(
+        heap,
+        "pack answer=written modules={modules} records={records} bytes={bytes}\n"
+    )?;
+    Ok(quiet(heap, out, false))
 }
 
 fn fault_words(heap: Global, fault: &Fault) -> Result<String, AllocError>

@@ -1,0 +1,5 @@
+pub mod Rows
+pub mod Scans
+pub mod Makes
+pub mod Turns
+pub mod Sweeps
