@@ -19,5 +19,6 @@ target/bin/tuchovai: crates.txt $(shell find crates -name '*.rt' -o -name '*.ant
 test:
 	cmp examples/bar3/bar3.table crates/tuchovai/data/bar3.table
 	cmp examples/bar3/bar3.table crates/command_runs/data/bar3.table
+	cmp examples/bar3/bar3.card crates/command_runs/data/bar3.card
 	rt fmt --check
 	rt ci
