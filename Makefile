@@ -1,15 +1,25 @@
-# `make demo` shows the example; `make test` is the gate.
-.PHONY: demo test
+# `make demo` shows the example; `make test` is the gate; `make bench` measures.
+.PHONY: demo test bench
 
 demo: target/bin/tuchovai
 	@echo '== the table of examples/bar3'
 	@cat examples/bar3/bar3.table
 	@echo
-	@echo '== tuchovai check examples/bar3/bar3.table'
-	@target/bin/tuchovai check examples/bar3/bar3.table
+	@echo '== tuchovai pack examples/bar3/bar3.table target/bar3.card'
+	@target/bin/tuchovai pack examples/bar3/bar3.table target/bar3.card
 	@echo
-	@echo '== tuchovai show examples/bar3/bar3.table'
-	@target/bin/tuchovai show examples/bar3/bar3.table
+	@echo '== tuchovai check target/bar3.card'
+	@target/bin/tuchovai check target/bar3.card
+	@echo
+	@echo '== tuchovai show target/bar3.card'
+	@target/bin/tuchovai show target/bar3.card
+
+bench: target/bin/spread_bench
+	@target/bin/spread_bench time
+
+target/bin/spread_bench: crates.txt $(shell find crates/spread crates/spread_bench crates/faults -name '*.rt' -o -name '*.antt')
+	rt check spread_bench > /dev/null
+	@touch $@
 
 target/bin/tuchovai: crates.txt $(shell find crates -name '*.rt' -o -name '*.antt')
 	rt check tuchovai > /dev/null
