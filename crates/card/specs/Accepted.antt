@@ -1,7 +1,8 @@
 -- What it takes for an image to be accepted.
 --
---   Chained        the blocks are module blocks with no wrong field, and the records of each begin where those of the one
---                  before end, from one number on up to another
+--   ModuleBlock    the block is a module's, with no wrong field, whose records begin at a number
+--   Chained        the blocks are such, and the records of each begin where those of the one before end, from one number
+--                  on up to another
 --   RecordBlock    the block is a record's, with no wrong field
 --   Accepted       the head, the limits, the length, the module blocks and the record blocks are as they should be
 use mathlib.Core.Path.{_≡_}

@@ -2,11 +2,20 @@
 --
 --   module-count, record-count, records-start, card-size   what the head says, and what follows from it
 --   module-blocks, record-blocks, fields-of   the blocks, and a block without its length and kind
+--   block-record, block-scanned   the record, and the module with its records, that a block stands for
 --   card-meaning     what an accepted card stands for: a module has `count` records from `first` on
+--   card-fault       a fault that the card's layer finds
+--   go-on            what follows an answer that is no fault
+--   head-wrong       a block's length or kind is another one
+--   head-verdict, module-verdict, record-verdict   the first fault of the head, of a module's block, of a record's
+--   module-end, modules-end   where the records of a module, and of the last one, end, or the first fault
+--   records-verdict, blocks-verdict   the first fault of the record blocks, and of all blocks with the last sum
 --   card-verdict     the first fault of an image, or accepted
 --   is-card          whether it is accepted
---   card-opened      what any image opens as: one that is refused as no modules and runtime 0
---   encode           the bytes of a meaning
+--   no-modules, card-opened   what any image opens as: one that is refused as no modules and runtime 0
+--   block            a block with its length and kind
+--   all-records      the records of all modules, one after another
+--   encode-head, encode-modules, encode-record, encode   the bytes of the head, of each module, of a record, of all
 use mathlib.Core.List.{List, [], _∷_, _++_, map}
 use mathlib.Core.Bool.{Bool, cond, not, _&&_}
 use Prim.Native.Nat.{ℕ, _+_, _*_}

@@ -6,6 +6,7 @@
 --   module-of, first-of, count-of   a module's description, its first record and how many it has, of a module's fields
 --   record-of        the record, of a record's fields
 --   module-fields, record-fields   the fields of a module, and of a record
+--   is-external, not-blank   the class is that of an external module, and a number of it that must be 0 is not
 --   class-wrong .. count-wrong, module-wrong   each field of a module in rising byte order, and whether one is wrong
 --   kind-wrong, star-wrong, record-wrong       the same of a record
 use mathlib.Core.List.{List, _∷_, _++_}

@@ -1,6 +1,11 @@
 -- That the check accepts exactly the images that are `Accepted`, and that these mean something proper.
 --
 --   accepted-from, accepted-to   from the verdict to `Accepted`, and back
+--   Resolved, Sound              a record and a module as a proper meaning has them
+--   proper-from                  a meaning is proper where each module is sound
+--   target-resolved              a target field gives a target below 2^32 - 1, or none
+--   Right, right-from            no field of a module's block is wrong, field by field
+--   blank-at, blank-scanned      an external module's numbers are 0, and it has no records
 --   card-proper                  the meaning of an accepted image is proper
 use mathlib.Core.Path.{_≡_, refl, sym, ap, subst, _∙_}
 use mathlib.Core.List.{List, [], _∷_, map}
