@@ -12,7 +12,7 @@
 --   records-verdict, blocks-verdict   the first fault of the record blocks, and of all blocks with the last sum
 --   card-verdict     the first fault of an image, or accepted
 --   is-card          whether it is accepted
---   no-modules, card-opened   what any image opens as: one that is refused as no modules and runtime 0
+--   card-opened      what any image opens as: one that is refused as no modules and runtime 0
 --   block            a block with its length and kind
 --   all-records      the records of all modules, one after another
 --   encode-head, encode-modules, encode-record, encode   the bytes of the head, of each module, of a record, of all

@@ -7,6 +7,7 @@
 --   WrapDid          wrap, with WrapStarts, Reached and RequiredBy
 --   AwaitDid         await, with Awaits
 --   EntriesDid       entries, with rank, Brings and EntriesTo
+--   FinishDid        finish, with StrictWraps: which modules it wraps
 use mathlib.Core.Path.{_≡_}
 use mathlib.Core.Bool.{Bool, true, false}
 use mathlib.Core.List.{List}
@@ -126,3 +127,13 @@ pub record EntriesTo (w : Meaning) (m e : ℕ) : Type 0 where
 
 abbrev pub EntriesDid : Meaning → LinkOptions → List MarkRow → List MarkRow → Type 0
 EntriesDid w o old new = Did w old new (kind-in old) Nowhere Nowhere Nowhere Nowhere (EntriesTo w)
+
+-- with strict order and manual groups, finish wraps every normal CommonJS module, leading nowhere
+pub record StrictWraps (w : Meaning) (o : LinkOptions) (kinds : ℕ → ExportsKind) (m : ℕ) : Type 0 where
+  pub strict : o .«strict_order» ≡ true
+  pub groups : o .«manual_groups» ≡ true
+  pub normal : NormalAt w m
+  pub common : kinds m ≡ CommonJs
+
+abbrev pub FinishDid : Meaning → LinkOptions → List MarkRow → List MarkRow → Type 0
+FinishDid w o old new = Did w old new (kind-in old) (StrictWraps w o (kind-in old)) Nowhere Nowhere Nowhere (SameEntries old)
