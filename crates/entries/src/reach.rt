@@ -28,6 +28,19 @@ fn is_entry(module: Module) -> bool
     }
 }
 
+/// How many entry modules there are.
+pub fn count_entries<S: ModuleSource>(source: &S) -> usize
+    ensures { λ r. ⌜ r ≡ rank (meaning (now (source .entry))) (count-of (meaning (now (source .entry)))) ⌝ }
+{
+    let mut n: usize = 0;
+    for m in 0..source.module_count() {
+        if is_entry(source.module(m)) {
+            n += 1;
+        }
+    }
+    n
+}
+
 // Each entry module starts with its own rank, in module order; every other module with none.
 fn entry_starts<S: ModuleSource>(source: &S, facts: &mut [EntrySet])
     requires small { ⌜ count-of (meaning (now source)) ≤ 4096 ⌝ }
