@@ -3,6 +3,7 @@ ghost use mathlib.Core.Path.{_≡_};
 ghost use Rattle.std.specs.Of.String.{string-bytes};
 ghost use Rattle.std.specs.Vec.{made};
 ghost use Rattle.commands.specs.Reports.{Quiet, Whole, fault-text};
+use crate::ask::interop;
 use crate::errors::AllocIntoCommandError;
 use crate::errors::CommandError;
 use crate::files::Contents;
@@ -31,6 +32,8 @@ usage: tuchovai COMMAND ..
   pack TABLE CARD   writes the source of a text table as a card
   show FILE         prints the modules of FILE as a text table
   check FILE        says whether FILE holds a source, or the first fault
+  interop FILE ROWS --chunk=N --namespace=N
+                    says which modes an external module needs in a chunk, by the rows in ROWS
   help              prints this text
   --version         prints the version
 
@@ -69,6 +72,18 @@ fn run_command(rt: &LibcRuntime, words: &[String]) -> Result<Report, CommandErro
         ("show", [_, path]) => show(rt, path.as_str()),
         ("check", [_, path]) => check(rt, path.as_str()),
         ("pack", [_, from, to]) => pack(rt, from.as_str(), to.as_str()),
+        ("interop", [_, path, rows, options @ ..]) => interop(
+            rt,
+            path.as_str(),
+            rows.as_str(),
+            options,
+        ),
+        ("interop", _) => Err(CommandError::Message(
+            format!(
+                heap,
+                "usage: tuchovai interop FILE ROWS --chunk=N --namespace=N"
+            )?,
+        )),
         ("pack", _) => Err(CommandError::Message(
             format!(heap, "usage: tuchovai pack TABLE CARD")?,
         )),
@@ -90,7 +105,7 @@ fn said(heap: Global, text: &str) -> Result<Report, AllocError>
     Ok(quiet(heap, String::from_str(heap, text)?, false))
 }
 
-fn quiet(heap: Global, out: String, failed: bool) -> Report
+pub fn quiet(heap: Global, out: String, failed: bool) -> Report
     ensures { λ r. ⌜ Quiet r ⌝ }
 {
     Report {
@@ -101,7 +116,7 @@ fn quiet(heap: Global, out: String, failed: bool) -> Report
 }
 
 // A file that is refused has nothing to be shown or packed.
-fn refusal(heap: Global, path: &str, fault: &Fault) -> Result<CommandError, AllocError> {
+pub fn refusal(heap: Global, path: &str, fault: &Fault) -> Result<CommandError, AllocError> {
     let words = fault_words(heap, fault)?;
     Ok(CommandError::Message(format!(heap, "{path}: refused {words}")?))
 }
@@ -216,7 +231,7 @@ fn pack(rt: &LibcRuntime, from: &str, to: &str) -> Result<Report, CommandError>
     Ok(quiet(heap, out, false))
 }
 
-fn fault_words(heap: Global, fault: &Fault) -> Result<String, AllocError>
+pub fn fault_words(heap: Global, fault: &Fault) -> Result<String, AllocError>
     ensures { λ r. ⌜ made r (λ text. string-bytes text ≡ fault-text (now (fault .entry))) ⌝ }
 {
     let number = fault.refusal.number();

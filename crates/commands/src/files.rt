@@ -1,6 +1,9 @@
 // Files that hold a source.
 use crate::errors::AllocIntoCommandError;
 use crate::errors::CommandError;
+use interop_rows::InteropRows;
+use interop_rows::RowsErrorDisplay;
+use interop_rows::read_rows as read_interop_rows;
 use std::fs;
 use std::str::from_utf8;
 use table::Table;
@@ -78,5 +81,19 @@ pub fn write_file(rt: &LibcRuntime, path: &str, bytes: &[u8]) -> Result<(), Comm
     match fs::write(rt, path, bytes) {
         Ok(()) => Ok(()),
         Err(error) => Err(CommandError::Message(format!(rt.alloc(), "{path}: {error}")?)),
+    }
+}
+
+/// The interop rows of a text file.
+pub fn read_interop_file(rt: &LibcRuntime, path: &str) -> Result<InteropRows, CommandError> {
+    let heap = rt.alloc();
+    let bytes = read_file(rt, path)?;
+    let text = match from_utf8(bytes.as_slice()) {
+        Ok(text) => text,
+        Err(_) => return Err(CommandError::Message(format!(heap, "{path}: not a text in UTF-8")?)),
+    };
+    match read_interop_rows(heap, text) {
+        Ok(rows) => Ok(rows),
+        Err(error) => Err(CommandError::Message(format!(heap, "{path}: {error}")?)),
     }
 }

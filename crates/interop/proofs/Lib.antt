@@ -1,0 +1,4 @@
+pub mod Joins
+pub mod Zeros
+pub mod Orders
+pub mod Tells

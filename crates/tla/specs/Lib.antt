@@ -1,0 +1,3 @@
+pub mod Awaiting
+pub mod Search
+pub mod Rows
