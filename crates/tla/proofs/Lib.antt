@@ -6,3 +6,5 @@ pub mod Copies
 pub mod Places
 pub mod Listed
 pub mod Looked
+pub mod Only
+pub mod Found

@@ -14,7 +14,7 @@ use Rattle.marks.specs.declared.rows.AwaitRow.{AwaitRow}
 use Rattle.marks.specs.Records.{Points}
 use Rattle.marks.proofs.Records.{points-in, some-is}
 use Rattle.tla.specs.Rows.{gives-row, rows-before, row-place, no-row, row-in, RowOf, RowsWritten}
-use Rattle.tla.proofs.Places.{points-give, place-none, place-all, place-yes, place-no, place-lt, place-before, place-under}
+use Rattle.tla.proofs.Places.{points-give, place-none, place-all, place-yes, place-no, place-lt, place-before}
 
 -- what is written of module m once its first k records are done
 pub record ModuleRows (w : Meaning) (waits : ℕ → Bool) (m k : ℕ) (old new : List AwaitRow) (n : ℕ) : Type 0 where

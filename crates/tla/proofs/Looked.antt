@@ -1,7 +1,7 @@
 -- What a look at a record says of the row that it gives. Assumes nothing.
 use mathlib.Core.Path.{_≡_, refl, sym, ap, _∙_}
 use mathlib.Core.Bool.{Bool, true, false, _&&_}
-use Prim.Native.Nat.{ℕ, _<_, _≤_}
+use Prim.Native.Nat.{ℕ, _<_}
 use native.Mathlib.Omega.{arith}
 use lib.ListN.{length}
 use Rattle.std.proofs.shelf.Sums.{getD-le-sumBy}
@@ -18,7 +18,7 @@ use Rattle.ways.specs.Ways.{Targets, record-total}
 use Rattle.tla.specs.Rows.{target-waits, gives-row}
 use Rattle.tla.proofs.Targets.{has-records}
 
-require-is : (kind : ImportKind) → is-require kind ≡ true → kind ≡ Require
+pub require-is : (kind : ImportKind) → is-require kind ≡ true → kind ≡ Require
 require-is Import e = let z : _≡_ {A = ℕ} 0 1 = cc in absurd (omega arith)
 require-is Require e = refl
 require-is DynamicImport e = let z : _≡_ {A = ℕ} 0 1 = cc in absurd (omega arith)

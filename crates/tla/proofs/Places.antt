@@ -1,5 +1,5 @@
 -- Where rows stand: one place on for each record that gives a row. Assumes nothing.
-use mathlib.Core.Path.{_≡_, refl, sym, ap, subst, _∙_}
+use mathlib.Core.Path.{_≡_, refl, ap, _∙_}
 use mathlib.Core.Bool.{Bool, true, false, cond}
 use mathlib.Core.List.{List, [], _∷_}
 use Prim.Native.Nat.{ℕ, _+_, _<_, _≤_}
@@ -8,14 +8,11 @@ use lib.ListN.{length, take}
 use Rattle.std.proofs.shelf.Lists.{take-all, take-take}
 use Rattle.std.proofs.shelf.Sums.{sumBy-cons, sumBy-more, sumBy-take-le, countBy-le-length, countBy-more-yes, countBy-more-no}
 use Rattle.std.proofs.shelf.Tests.{and-from}
-use Rattle.std.specs.shelf.Lists.{sumBy, countBy}
-use Rattle.std.specs.declared.option.Option.{Option}
-use Rattle.std.specs.declared.option.Option.the-variants.{Some, None}
+use Rattle.std.specs.shelf.Lists.{sumBy}
 use Rattle.source.specs.declared.ImportKind.the-variants.{Require}
 use Rattle.source.specs.declared.ImportRecord.{ImportRecord}
 use Rattle.source.specs.Meaning.{Meaning, Scanned, count-of, records-of, records-in, record-at, past-modules, past-records}
 use Rattle.marks.specs.Records.{Points}
-use Rattle.marks.proofs.Records.{points-in}
 use Rattle.ways.specs.Targets.{is-require}
 use Rattle.ways.specs.Ways.{record-total}
 use Rattle.tla.specs.Rows.{target-waits, gives-row, rows-in, rows-before, row-place, row-total}

@@ -5,7 +5,7 @@ use mathlib.Core.List.{List, [], _∷_, _++_}
 use mathlib.Core.Logic.{_⊎_, inl, inr}
 use Prim.Native.Nat.{ℕ, _+_, _<_, _≤_}
 use native.Mathlib.Omega.{arith}
-use lib.ListN.{length, getD, set}
+use lib.ListN.{length}
 use Rattle.std.proofs.shelf.Lists.{getD-set-same, getD-set-other, length-set, set-past}
 use Rattle.std.proofs.shelf.Sums.{sumBy-set}
 use Rattle.std.proofs.shelf.Tests.{cases-eq, cases-lt, both-ways}
@@ -15,7 +15,7 @@ use Rattle.std.specs.declared.option.Option.the-variants.{Some, None}
 use Rattle.source.specs.Meaning.{Meaning, Proper, count-of, module-at}
 use Rattle.marks.specs.Passes.{Awaits}
 use Rattle.marks.specs.Records.{Imports, Leads, here, along}
-use Rattle.marks.proofs.Records.{none-some, some-is}
+use Rattle.marks.proofs.Records.{none-some}
 use Rattle.spread.specs.declared.yes_no.YesNo.{YesNo}
 use Rattle.spread.specs.Kinds.{plain-no}
 use Rattle.ways.specs.Targets.{flag}
@@ -66,22 +66,22 @@ module _ (w : Meaning) where
   searched-long ends = refl
   searched-long (passes h d) = searched-long d
   searched-long (stops {e} {t} h a) = enter-long e t
-  searched-long (finds {e} {last} {t} h n d) = searched-long d ∙ enter-long e t
-  searched-long (goes-on {e} {next} {last} {t} h n d after) = searched-long after ∙ searched-long d ∙ enter-long e t
+  searched-long (finds {e} {t} h n d) = searched-long d ∙ enter-long e t
+  searched-long (goes-on {e} {t} h n d after) = searched-long after ∙ searched-long d ∙ enter-long e t
 
   pub searched-kept : {e last : List YesNo} {ts : List ℕ} {r : Option ℕ} → Searches w e ts r last → (x : ℕ) → flag e x ≡ true → flag last x ≡ true
   searched-kept ends x y = y
   searched-kept (passes h d) x y = searched-kept d x y
   searched-kept (stops {e} {t} h a) x y = enter-kept e t x y
-  searched-kept (finds {e} {last} {t} h n d) x y = searched-kept d x (enter-kept e t x y)
-  searched-kept (goes-on {e} {next} {last} {t} h n d after) x y = searched-kept after x (searched-kept d x (enter-kept e t x y))
+  searched-kept (finds {e} {t} h n d) x y = searched-kept d x (enter-kept e t x y)
+  searched-kept (goes-on {e} {t} h n d after) x y = searched-kept after x (searched-kept d x (enter-kept e t x y))
 
   pub searched-fewer : {e last : List YesNo} {ts : List ℕ} {r : Option ℕ} → Searches w e ts r last → fresh last ≤ fresh e
   searched-fewer ends = omega arith
   searched-fewer (passes h d) = searched-fewer d
   searched-fewer (stops {e} {t} h a) = enter-no-more e t
-  searched-fewer (finds {e} {last} {t} h n d) = omega (arith, searched-fewer d, enter-no-more e t)
-  searched-fewer (goes-on {e} {next} {last} {t} h n d after) = omega (arith, searched-fewer after, searched-fewer d, enter-no-more e t)
+  searched-fewer (finds {e} {t} h n d) = omega (arith, searched-fewer d, enter-no-more e t)
+  searched-fewer (goes-on {e} {t} h n d after) = omega (arith, searched-fewer after, searched-fewer d, enter-no-more e t)
 
   -- a search of more modules: it has stopped already, or goes on with them
   pub searched-found : {e last : List YesNo} {ts : List ℕ} {r : Option ℕ} (s : ℕ) (more : List ℕ) → r ≡ Some s → Searches w e ts r last → Searches w e (ts ++ more) r last
@@ -95,7 +95,7 @@ module _ (w : Meaning) where
   searched-on z ends f = f
   searched-on z (passes h d) f = passes h (searched-on z d f)
   searched-on z (stops {e} {t} h a) f = absurd (none-some t (sym z))
-  searched-on z (finds {e} {last} {t} {s} h n d) f = absurd (none-some s (sym z))
+  searched-on z (finds {s} h n d) f = absurd (none-some s (sym z))
   searched-on z (goes-on h n d after) f = goes-on h n d (searched-on z after f)
 
 -- where it stops
@@ -108,7 +108,7 @@ module _ (w : Meaning) (proper : Proper w) (m : ℕ) where
   searched-sound all ends = tt
   searched-sound all (passes h d) = searched-sound (all .1) d
   searched-sound all (stops h a) = (a, all .0)
-  searched-sound all (finds {e} {last} {t} h n d) = searched-sound (imports-led w proper m t (all .0)) d
+  searched-sound all (finds {e} {t} h n d) = searched-sound (imports-led w proper m t (all .0)) d
   searched-sound all (goes-on h n d after) = searched-sound (all .1) after
 
 -- where it answers none: what is entered is done
@@ -122,12 +122,12 @@ pub record Done (w : Meaning) (e last : List YesNo) (ts : List ℕ) : Type 0 whe
 module _ (w : Meaning) (proper : Proper w) (targets : Targets w) where
   pub searched-done : {e last : List YesNo} {ts : List ℕ} {r : Option ℕ} → r ≡ None → count-of w ≤ length e → Each (λ t. t < count-of w) ts → Searches w e ts r last → Done w e last ts
   searched-done z long inside ends = record { all = tt; closed = λ x h. inl h }
-  searched-done z long inside (passes {e} {last} {t} h d) =
+  searched-done z long inside (passes {t} h d) =
       let rest = searched-done z long (inside .1) d in
       record { all = (searched-kept w d t h, rest .all); closed = rest .closed }
   searched-done z long inside (stops {e} {t} h a) = absurd (none-some t (sym z))
-  searched-done z long inside (finds {e} {last} {t} {s} h n d) = absurd (none-some s (sym z))
-  searched-done z long inside (goes-on {e} {next} {last} {t} {ts} h n d after) =
+  searched-done z long inside (finds {s} h n d) = absurd (none-some s (sym z))
+  searched-done z long inside (goes-on {e} {next} {last} {t} h n d after) =
       let below = searched-done refl (omega (arith, enter-long e t)) (imports-inside w proper targets t) d in
       let rest = searched-done z (omega (arith, searched-long w d, enter-long e t)) (inside .1) after in
       let keep = searched-kept w after in

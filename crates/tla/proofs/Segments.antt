@@ -1,10 +1,10 @@
 -- Where the imports of a module stand among the arrows of all modules. Assumes nothing.
 use mathlib.Core.Path.{_≡_, refl, sym, ap, subst, _∙_}
-use mathlib.Core.List.{List, [], _∷_, _++_, map, append-assoc}
+use mathlib.Core.List.{List, [], _∷_, _++_, append-assoc}
 use Prim.Native.Nat.{ℕ, _+_, _-_, _<_, _≤_}
 use native.Mathlib.Omega.{arith}
 use lib.ListN.{length, getD, take, drop}
-use Rattle.std.proofs.shelf.Lists.{take-more, take-all, take-append-drop, drop-more, length-append, length-map, length-take-le, getD-append-left, getD-append-add, getD-take, getD-map, joined-more}
+use Rattle.std.proofs.shelf.Lists.{take-more, take-all, take-append-drop, drop-more, length-append, length-take-le, getD-append-left, getD-append-add, getD-take, getD-map, joined-more}
 use Rattle.std.specs.Joined.{joined}
 use Rattle.source.specs.Meaning.{Meaning, Proper, Scanned, count-of, scanned-at, past-modules}
 use Rattle.spread.specs.declared.arrow.Arrow.{Arrow}
@@ -36,9 +36,6 @@ module _ (w : Meaning) where
   before-fits m = let all = ap (λ (ts : List ℕ). length ts) (before-all m) ∙ length-append (imports-before w m) (after m) in omega (arith, all)
 
 module _ (w : Meaning) (first : List ℕ) (arrows : List Arrow) (laid : Laid w first arrows) (m : ℕ) (h : m < count-of w) where
-  start : ℕ
-  start = getD first m 0
-
   last-is : getD first (m + 1) 0 ≡ length (imports-before w m) + length (imports-of w m)
   last-is = laid .starts (m + 1) (omega arith) ∙ ap (λ (ts : List ℕ). length ts) (before-more w m h) ∙ length-append (imports-before w m) (imports-of w m)
 

@@ -10,14 +10,13 @@ use Rattle.std.proofs.shelf.Lists.{getD-past}
 use Rattle.std.proofs.shelf.Tests.{cases-lt}
 use Rattle.std.specs.declared.option.Option.{Option}
 use Rattle.std.specs.declared.option.Option.the-variants.{Some, None}
-use Rattle.source.specs.declared.ImportKind.{ImportKind}
 use Rattle.source.specs.declared.ImportKind.the-variants.{Import}
 use Rattle.source.specs.declared.ImportRecord.{ImportRecord}
 use Rattle.source.specs.declared.Module.{Module}
 use Rattle.source.specs.declared.Module.the-variants.{External, Normal}
 use Rattle.source.specs.declared.NormalModule.{NormalModule}
 use Rattle.source.specs.Meaning.{Meaning, Proper, count-of, module-at, records-of, records-in, record-at, past-records}
-use Rattle.marks.specs.Records.{NormalAt, Points, Imports, Leads, along}
+use Rattle.marks.specs.Records.{NormalAt, Imports, Leads, along}
 use Rattle.marks.proofs.Records.{none-some}
 use Rattle.ways.specs.Ways.{is-import, Targets}
 use Rattle.ways.proofs.Steps.{awaits-to}

@@ -1,8 +1,7 @@
 -- The parts of the pass that marks the modules that wait together do what it promises. Assumes nothing.
-use mathlib.Core.Path.{_≡_, refl, sym, ap, _∙_}
+use mathlib.Core.Path.{_≡_, refl, ap, _∙_}
 use mathlib.Core.Bool.{true, false≢true}
 use mathlib.Core.List.{List}
-use mathlib.Core.Logic.{_↔_}
 use Prim.Native.Nat.{ℕ, _<_, _≤_}
 use native.Mathlib.Omega.{arith}
 use lib.ListN.{length}
@@ -63,16 +62,16 @@ module _ (w : Meaning) (starts facts : List YesNo)
         (filled (a .last) (imports-within w targets m (a .last) h (a .leads)) .1 (awaits-at w m a)),
   )
 
-  module _ (rows new : List MarkRow) (written : Written (count-of w) (AwaitingRow facts) rows new) where
-    pub await-did : (o : LinkOptions) → AwaitDid w o rows new
-    await-did o = record {
-      long = written .long;
-      past = written .rest;
-      rule = λ m h. ap (λ (r : MarkRow). agrees (r .kind) (r .wrap)) (written .each m h) ∙ read-agrees (row-at rows m .kind) (row-at rows m .wrap);
-      kind = λ m h. ap (λ (r : MarkRow). r .kind) (written .each m h);
-      wrap = λ m h. raised-stays (ap (λ (r : MarkRow). is-wrapped (read-wrap (r .kind) (r .wrap))) (written .each m h) ∙ ap is-wrapped (read-again (row-at rows m .kind) (row-at rows m .wrap)));
-      required = λ m h. raised-stays (ap (λ (r : MarkRow). r .required) (written .each m h));
-      dynamic = λ m h. raised-stays (ap (λ (r : MarkRow). r .dynamic) (written .each m h));
-      awaiting = λ m h. raised-or (row-at rows m .awaiting) (flag facts m) (row-at new m .awaiting) (ap (λ (r : MarkRow). r .awaiting) (written .each m h)) (facts-say m h);
-      entries = λ m h. ap (λ (r : MarkRow). r .entries) (written .each m h);
-    }
+module _ (w : Meaning) (facts : List YesNo) (rows new : List MarkRow) (filled : Filled (count-of w) (Awaits w) facts) (written : Written (count-of w) (AwaitingRow facts) rows new) where
+  pub await-did : (o : LinkOptions) → AwaitDid w o rows new
+  await-did o = record {
+    long = written .long;
+    past = written .rest;
+    rule = λ m h. ap (λ (r : MarkRow). agrees (r .kind) (r .wrap)) (written .each m h) ∙ read-agrees (row-at rows m .kind) (row-at rows m .wrap);
+    kind = λ m h. ap (λ (r : MarkRow). r .kind) (written .each m h);
+    wrap = λ m h. raised-stays (ap (λ (r : MarkRow). is-wrapped (read-wrap (r .kind) (r .wrap))) (written .each m h) ∙ ap is-wrapped (read-again (row-at rows m .kind) (row-at rows m .wrap)));
+    required = λ m h. raised-stays (ap (λ (r : MarkRow). r .required) (written .each m h));
+    dynamic = λ m h. raised-stays (ap (λ (r : MarkRow). r .dynamic) (written .each m h));
+    awaiting = λ m h. raised-or (row-at rows m .awaiting) (flag facts m) (row-at new m .awaiting) (ap (λ (r : MarkRow). r .awaiting) (written .each m h)) (filled m h);
+    entries = λ m h. ap (λ (r : MarkRow). r .entries) (written .each m h);
+  }

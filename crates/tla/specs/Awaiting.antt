@@ -8,7 +8,6 @@ use mathlib.Core.List.{List}
 use Prim.Native.Nat.{ℕ}
 use Rattle.source.specs.declared.Module.{Module}
 use Rattle.source.specs.declared.Module.the-variants.{External, Normal}
-use Rattle.source.specs.declared.NormalModule.{NormalModule}
 use Rattle.source.specs.Meaning.{Meaning, module-at}
 use Rattle.marks.specs.declared.rows.MarkRow.{MarkRow}
 use Rattle.marks.specs.Marks.{read-row, with-awaiting}

@@ -1,14 +1,15 @@
 -- The rows of `require`s that would have to wait.
 --
---   gives-row      a record is a `Require` whose target waits; `waits` says which modules do
---   rows-in        how many of these records give a row
---   rows-before    how many of the modules below m do
---   row-place      how many rows stand before that of record k of module m, in scan order
---   row-total      how many rows there are
---   await-span     where a module's `await` stands
---   RowOf          a row is that of record k of module m, to module t
---   RowsWritten    the rows of the modules below `done` stand in their places, n in all, and the others stay
---   AwaitRows      all rows stand in their places
+--   target-waits, gives-row   a record's target waits; a record is a `Require` whose target waits. `waits` says which modules do
+--   rows-in                   how many of these records give a row
+--   rows-before, row-total    how many rows the modules below m give; all modules
+--   row-place                 how many rows stand before that of record k of module m, in scan order
+--   await-span                where a module's first `await` stands
+--   no-row, row-in            the i-th row, and what a look-up finds past the last
+--   RowOf                     a row is that of record k of module m, a `Require` of module t
+--   RowsWritten               the rows of the modules below `done` stand in their places, n in all, and the others stay
+--   RowAt                     the i-th row is that of some `Require` of a module that waits
+--   AwaitRows                 all rows stand in their places, one for each such record and no others
 use mathlib.Core.Path.{_≡_}
 use mathlib.Core.Bool.{Bool, true, false, _&&_}
 use mathlib.Core.List.{List}
@@ -28,7 +29,7 @@ use Rattle.marks.specs.declared.rows.AwaitRow.{AwaitRow}
 use Rattle.marks.specs.Passes.{Awaits}
 use Rattle.marks.specs.Records.{Points}
 use Rattle.ways.specs.Targets.{is-require}
-use Rattle.tla.specs.Search.{SourceOf}
+use Rattle.tla.specs.Search.{SourceOf, Told}
 
 abbrev pub target-waits : (ℕ → Bool) → Option ℕ → Bool
 target-waits waits None = false
@@ -63,6 +64,7 @@ pub record RowOf (w : Meaning) (m k t : ℕ) (row : AwaitRow) : Type 0 where
   pub by : row .importer ≡ m
   pub at : row .«record» ≡ k
   pub found : SourceOf w t (Some (row .source))
+  pub reached : Told w t (Some (row .source))
   pub asked : row .span ≡ record-at w m k .span
   pub awaited : row .«await_span» ≡ await-span (module-at w (row .source))
 
@@ -71,10 +73,19 @@ pub record RowsWritten (w : Meaning) (waits : ℕ → Bool) (done : ℕ) (old ne
   pub each : (m k t : ℕ) → m < done → Points w m k Require t → waits t ≡ true → RowOf w m k t (row-in new (row-place w waits m k))
   pub rest : (i : ℕ) → n ≤ i → row-in new i ≡ row-in old i
 
+pub record RowAt (w : Meaning) (waits : ℕ → Bool) (i : ℕ) : Type 0 where
+  pub importer : ℕ
+  pub place : ℕ
+  pub target : ℕ
+  pub points : Points w importer place Require target
+  pub waiting : waits target ≡ true
+  pub here : row-place w waits importer place ≡ i
+
 pub record AwaitRows (w : Meaning) (old new : List AwaitRow) (n : ℕ) : Type 0 where
   pub waits : ℕ → Bool
   pub when : (t : ℕ) → t < count-of w → (waits t ≡ true) ↔ Awaits w t
   pub count : n ≡ row-total w waits
+  pub all : (i : ℕ) → i < n → RowAt w waits i
   pub long : length new ≡ length old
   pub each : (m k t : ℕ) → Points w m k Require t → Awaits w t → RowOf w m k t (row-in new (row-place w waits m k))
   pub rest : (i : ℕ) → n ≤ i → row-in new i ≡ row-in old i

@@ -6,7 +6,7 @@
 --   enter                the flags with a module entered
 --   Searches             a search of modules in turn, what it answers, and which modules are entered then
 --   SourceOf             what a search answers that begins at a module with none entered
---   Told                 what the answer says of the module it began at
+--   Told                 what the answer says of the module it began at; Only: that there is no other answer
 --   Laid                 the imports of all modules as arrows, and where those of each module begin
 use mathlib.Core.Path.{_≡_}
 use mathlib.Core.Bool.{Bool, true, false}
@@ -17,7 +17,7 @@ use Rattle.std.specs.Joined.{joined}
 use Rattle.std.specs.declared.option.Option.{Option}
 use Rattle.std.specs.declared.option.Option.the-variants.{Some, None}
 use Rattle.source.specs.declared.ImportRecord.{ImportRecord}
-use Rattle.source.specs.Meaning.{Meaning, Scanned, count-of, records-of, module-at}
+use Rattle.source.specs.Meaning.{Meaning, count-of, records-of, module-at}
 use Rattle.marks.specs.Passes.{Awaits}
 use Rattle.marks.specs.Records.{Imports, Leads}
 use Rattle.spread.specs.declared.arrow.Arrow.{Arrow}
@@ -63,6 +63,9 @@ pub record SourceOf (w : Meaning) (m : ℕ) (answer : Option ℕ) : Type 0 where
 abbrev pub Told : Meaning → ℕ → Option ℕ → Type 0
 Told w m None = Awaits w m → ⊥
 Told w m (Some s) = AwaitAt w s × Leads (Imports w) m s
+
+abbrev pub Only : Meaning → ℕ → Option ℕ → Type 0
+Only w m answer = (other : Option ℕ) → SourceOf w m other → other ≡ answer
 
 pub record Laid (w : Meaning) (first : List ℕ) (arrows : List Arrow) : Type 0 where
   pub long : count-of w < length first

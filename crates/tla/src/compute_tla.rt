@@ -5,10 +5,9 @@ ghost use lib.ListN.{length};
 ghost use Rattle.source.specs.Meaning.{count-of};
 ghost use Rattle.marks.specs.declared.options.LinkOptions.{LinkOptions};
 ghost use Rattle.marks.specs.Passes.{Awaits, AwaitDid};
-ghost use Rattle.marks.specs.Rows.{Written};
 ghost use Rattle.ways.specs.Targets.{Filled};
 ghost use Rattle.ways.specs.Ways.{Targets, record-total};
-ghost use Rattle.tla.specs.Awaiting.{has-await, AwaitAt, AwaitingRow};
+ghost use Rattle.tla.specs.Awaiting.{has-await, AwaitAt};
 use marks::Mark;
 use marks::MarkRow;
 use source::Module;
@@ -38,11 +37,25 @@ fn own_awaits<S: ModuleSource>(source: &S, facts: &mut [YesNo])
     }
 }
 
-// Writes each row whole, awaiting where it was or where the facts say so.
-fn write_awaiting<S: ModuleSource>(source: &S, rows: &mut [MarkRow], facts: &[YesNo])
+/// The facts become yes exactly at the normal modules from which imports lead to one with a top-level await, itself
+/// included. Circles count.
+pub fn find_awaiting<S: ModuleSource>(source: &S, facts: &mut [YesNo], arrows: &mut [Arrow])
+    requires small { ⌜ count-of (meaning (now source)) ≤ 4096 ⌝ }
+    requires facts { ⌜ count-of (meaning (now source)) ≤ length (now facts) ⌝ }
+    requires room { ⌜ record-total (meaning (now source)) ≤ length (now arrows) ⌝ }
+    requires targets { ⌜ Targets (meaning (now source)) ⌝ }
+    ensures { λ _. ⌜ Filled (count-of (meaning (now (source .entry)))) (Awaits (meaning (now (source .entry)))) (now (facts .exit)) ⌝ }
+{
+    own_awaits(source, facts);
+    spread_along(source, Way::Awaits, facts, arrows);
+}
+
+/// Writes each row whole, awaiting where it was or where the facts say so.
+pub fn mark_awaiting<S: ModuleSource>(source: &S, rows: &mut [MarkRow], facts: &[YesNo])
     requires rows { ⌜ count-of (meaning (now source)) ≤ length (now rows) ⌝ }
     requires facts { ⌜ count-of (meaning (now source)) ≤ length (now facts) ⌝ }
-    ensures { λ _. ⌜ Written (count-of (meaning (now (source .entry)))) (AwaitingRow (now (facts .entry))) (now (rows .entry)) (now (rows .exit)) ⌝ }
+    requires waits { ⌜ Filled (count-of (meaning (now source))) (Awaits (meaning (now source))) (now facts) ⌝ }
+    ensures { λ _. ⌜ ((o : LinkOptions) → AwaitDid (meaning (now (source .entry))) o (now (rows .entry)) (now (rows .exit))) ⌝ }
 {
     for m in 0..source.module_count() {
         let row = rows[m];
@@ -52,8 +65,7 @@ fn write_awaiting<S: ModuleSource>(source: &S, rows: &mut [MarkRow], facts: &[Ye
     }
 }
 
-/// Awaiting becomes yes for the normal modules from which imports lead to one with a top-level await, itself included.
-/// The facts are then yes exactly there.
+/// Awaiting becomes yes for the modules that wait, and the facts say which they are.
 pub fn determine_awaiting<S: ModuleSource>(
     source: &S,
     rows: &mut [MarkRow],
@@ -68,7 +80,6 @@ pub fn determine_awaiting<S: ModuleSource>(
     ensures marks { λ _. ⌜ ((o : LinkOptions) → AwaitDid (meaning (now (source .entry))) o (now (rows .entry)) (now (rows .exit))) ⌝ }
     ensures facts { λ _. ⌜ Filled (count-of (meaning (now (source .entry)))) (Awaits (meaning (now (source .entry)))) (now (facts .exit)) ⌝ }
 {
-    own_awaits(source, facts);
-    spread_along(source, Way::Awaits, facts, arrows);
-    write_awaiting(source, rows, facts);
+    find_awaiting(source, facts, arrows);
+    mark_awaiting(source, rows, facts);
 }

@@ -5,7 +5,7 @@ ghost use Prim.Native.Nat.{_<_, _≤_};
 ghost use lib.ListN.{length};
 ghost use Rattle.source.specs.Meaning.{count-of};
 ghost use Rattle.ways.specs.Ways.{Targets, is-import, record-total};
-ghost use Rattle.tla.specs.Search.{Laid, Searches, SourceOf, Told};
+ghost use Rattle.tla.specs.Search.{Laid, Only, Searches, SourceOf, Told};
 use crate::compute_tla::has_await;
 use source::ImportKind;
 use source::ModuleSource;
@@ -95,6 +95,7 @@ pub fn tla_source<S: ModuleSource>(
     requires place { ⌜ m < count-of (meaning (now source)) ⌝ }
     ensures search { λ r. ⌜ SourceOf (meaning (now (source .entry))) m r ⌝ }
     ensures told { λ r. ⌜ Told (meaning (now (source .entry))) m r ⌝ }
+    ensures only { λ r. ⌜ Only (meaning (now (source .entry))) m r ⌝ }
 {
     clear(source, entered);
     find_tla_source(source, first, arrows, entered, m)

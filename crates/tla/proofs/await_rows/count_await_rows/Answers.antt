@@ -1,13 +1,11 @@
-use mathlib.Core.Path.{_≡_, sym, _∙_}
-use Prim.Native.Nat.{_+_, _<_, _≤_}
+use mathlib.Core.Path.{sym, _∙_}
+use Prim.Native.Nat.{_<_}
 use native.Mathlib.Omega.{arith}
 use borrow.Author.Needs.{needs}
-use lib.ListN.{length}
 use Rattle.source.specs.Meaning.{count-of, records-in}
 use Rattle.ways.specs.Targets.{flag}
-use Rattle.tla.specs.Rows.{rows-before, row-place}
 use Rattle.tla.proofs.Looked.{looked-none, looked-gives, looked-below}
-use Rattle.tla.proofs.Places.{before-all, place-none, place-all, place-yes, place-no, place-room, total-le}
+use Rattle.tla.proofs.Places.{before-all, place-all, place-yes, place-no, place-room, total-le}
 use Rattle.tla.proofs.await_rows.count_await_rows.Needs as need
 use Rattle.tla.proofs.await_rows.count_await_rows.Needs.{then-gives-row, else-gives-row}
 

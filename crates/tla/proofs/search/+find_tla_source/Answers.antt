@@ -1,15 +1,14 @@
-use mathlib.Core.Path.{_≡_, refl, sym, ap, subst, _∙_}
-use mathlib.Core.List.{List, [], _∷_}
+use mathlib.Core.Path.{refl, sym, ap, subst, _∙_}
+use mathlib.Core.List.{List}
 use Prim.Native.Nat.{ℕ, _-_, _<_, _≤_}
 use native.Mathlib.Omega.{arith}
 use borrow.Author.Needs.{needs}
-use lib.ListN.{length, getD, drop}
+use lib.ListN.{length, getD}
 use Rattle.std.proofs.shelf.Lists.{drop-all}
 use Rattle.std.specs.declared.option.Option.the-variants.{Some, None}
 use Rattle.source.specs.Meaning.{count-of}
-use Rattle.spread.specs.Leads.{no-arrow}
 use Rattle.tla.specs.Awaiting.{has-await}
-use Rattle.tla.specs.Search.{imports-of, enter, Searches, ends, passes, stops, finds, goes-on}
+use Rattle.tla.specs.Search.{imports-of, Searches, ends, passes, stops, finds, goes-on}
 use Rattle.tla.proofs.Searched.{fresh, enter-long, enter-fewer, searched-fewer, searched-found, searched-on}
 use Rattle.tla.proofs.Segments.{last-import, arrow-below, imports-left, arrow-inside}
 use Rattle.tla.proofs.search.+find_tla_source.Needs as need

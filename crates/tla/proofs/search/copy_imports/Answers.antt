@@ -1,16 +1,14 @@
 use borrow.Author.Needs.{needs}
-use mathlib.Core.Path.{_≡_, refl, sym, ap, subst, _∙_}
+use mathlib.Core.Path.{refl, sym, ap, subst, _∙_}
 use mathlib.Core.List.{List}
 use Prim.Native.Nat.{ℕ, _+_, _<_, _≤_}
 use native.Mathlib.Omega.{arith}
 use lib.ListN.{length, set}
-use Rattle.std.proofs.shelf.Lists.{length-set}
 use Rattle.source.specs.Meaning.{count-of, records-in, record-at}
 use Rattle.marks.proofs.Records.{kind-looked, target-looked}
 use Rattle.spread.specs.declared.arrow.Arrow.{Arrow}
 use Rattle.ways.specs.Ways.{is-import, record-total}
-use Rattle.tla.specs.Search.{imports-before}
-use Rattle.tla.proofs.Copies.{Copied, so-far, so-far-none, so-far-all, led-none, led-other, led-one, copied-over, copied-room, copied-push, Begun, begun-more, laid-all}
+use Rattle.tla.proofs.Copies.{Copied, so-far, so-far-none, so-far-all, led-none, led-other, led-one, copied-over, copied-room, copied-push, begun-more, laid-all}
 use Rattle.tla.proofs.search.copy_imports.Needs as need
 use Rattle.tla.proofs.search.copy_imports.Needs.{then-is-import, else-is-import}
 
