@@ -75,9 +75,6 @@ module _ (w : Meaning) (m : ℕ) where
       ap (λ (rs : List ImportRecord). imports-before w m ++ imports-in rs) (take-more (records-of w m) k past-records h)
       ∙ sym (joined-more led (imports-before w m) (take k (records-of w m)) (record-at w m k))
 
-  pub so-far-none : so-far 0 ≡ imports-before w m
-  so-far-none = append-nil (imports-before w m)
-
   pub so-far-all : (k : ℕ) → m < count-of w → records-in w m ≤ k → so-far k ≡ imports-before w (m + 1)
   so-far-all k h le = ap (λ (rs : List ImportRecord). imports-before w m ++ imports-in rs) (take-all k (records-of w m) le) ∙ sym (before-more w m h)
 

@@ -8,3 +8,4 @@ pub mod Listed
 pub mod Looked
 pub mod Only
 pub mod Found
+pub mod Counted

@@ -14,7 +14,7 @@ use Rattle.marks.specs.declared.rows.AwaitRow.{AwaitRow}
 use Rattle.marks.specs.Records.{Points}
 use Rattle.marks.proofs.Records.{points-in, some-is}
 use Rattle.tla.specs.Rows.{gives-row, rows-before, row-place, no-row, row-in, RowOf, RowsWritten}
-use Rattle.tla.proofs.Places.{points-give, place-none, place-all, place-yes, place-no, place-lt, place-before}
+use Rattle.tla.proofs.Places.{points-give, place-all, place-yes, place-no, place-lt, place-before}
 
 -- what is written of module m once its first k records are done
 pub record ModuleRows (w : Meaning) (waits : ℕ → Bool) (m k : ℕ) (old new : List AwaitRow) (n : ℕ) : Type 0 where
@@ -24,13 +24,7 @@ pub record ModuleRows (w : Meaning) (waits : ℕ → Bool) (m k : ℕ) (old new 
   pub rest : (i : ℕ) → n ≤ i → row-in new i ≡ row-in old i
 
 module _ (w : Meaning) (waits : ℕ → Bool) where
-  pub written-none : (rows : List AwaitRow) → RowsWritten w waits 0 rows rows 0
-  written-none rows = record { count = refl; each = λ m k t h. absurd (omega arith); rest = λ i h. refl }
-
   module _ (m : ℕ) (old : List AwaitRow) where
-    pub module-none : (n : ℕ) → n ≡ rows-before w waits m → ModuleRows w waits m 0 old old n
-    module-none n e = record { count = e ∙ sym (place-none w waits m); here = λ j t h. absurd (omega arith); kept = λ i h. refl; rest = λ i h. refl }
-
     module _ (h : m < count-of w) (k : ℕ) (new : List AwaitRow) (n : ℕ) (i : k < records-in w m) (r : ModuleRows w waits m k old new n) where
       pub module-over : gives-row waits (record-at w m k) ≡ false → ModuleRows w waits m (k + 1) old new n
       module-over e = record {

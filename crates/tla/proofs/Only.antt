@@ -6,6 +6,7 @@ use Prim.Native.Nat.{ℕ, _<_, _≤_}
 use native.Mathlib.Omega.{arith}
 use lib.ListN.{length}
 use Rattle.std.proofs.shelf.Tests.{both-ways, cases-eq}
+use Rattle.std.specs.shelf.Lists.{All}
 use Rattle.std.specs.declared.option.Option.{Option}
 use Rattle.source.specs.Meaning.{Meaning, Proper, count-of}
 use Rattle.marks.proofs.Records.{none-some}
@@ -14,7 +15,7 @@ use Rattle.ways.specs.Targets.{flag}
 use Rattle.ways.specs.Ways.{Targets}
 use Rattle.tla.specs.Search.{enter, Searches, ends, passes, stops, finds, goes-on, SourceOf}
 use Rattle.tla.proofs.Searched.{enter-long, enter-same, enter-other}
-use Rattle.tla.proofs.Targets.{Each, imports-inside}
+use Rattle.tla.proofs.Targets.{imports-inside}
 
 -- flags with a place for each module, and the same modules entered
 record Alike (w : Meaning) (e f : List YesNo) : Type 0 where
@@ -34,7 +35,7 @@ module _ (w : Meaning) where
   }
 
   module _ (proper : Proper w) (targets : Targets w) where
-    one-answer : {e f e-last f-last : List YesNo} {ts : List ℕ} {r q : Option ℕ} → Alike w e f → Each (λ t. t < count-of w) ts → Searches w e ts r e-last → Searches w f ts q f-last → (r ≡ q) × Alike w e-last f-last
+    one-answer : {e f e-last f-last : List YesNo} {ts : List ℕ} {r q : Option ℕ} → Alike w e f → All (λ t. t < count-of w) ts → Searches w e ts r e-last → Searches w f ts q f-last → (r ≡ q) × Alike w e-last f-last
     one-answer a i ends ends = (refl, a)
     one-answer a i (passes h d) (passes k b) = one-answer a (i .1) d b
     one-answer a i (passes {t} h d) (stops k b) = absurd (both-ways _ (a .same t (i .0) ∙ k) h)

@@ -6,10 +6,11 @@ use mathlib.Core.Logic.{_⊎_, inl, inr}
 use Prim.Native.Nat.{ℕ, _+_, _<_, _≤_}
 use native.Mathlib.Omega.{arith}
 use lib.ListN.{length}
+use Rattle.std.proofs.shelf.Elements.{all-weaker}
 use Rattle.std.proofs.shelf.Lists.{getD-set-same, getD-set-other, length-set, set-past}
 use Rattle.std.proofs.shelf.Sums.{sumBy-set}
 use Rattle.std.proofs.shelf.Tests.{cases-eq, cases-lt, both-ways}
-use Rattle.std.specs.shelf.Lists.{countBy}
+use Rattle.std.specs.shelf.Lists.{All, countBy}
 use Rattle.std.specs.declared.option.Option.{Option}
 use Rattle.std.specs.declared.option.Option.the-variants.{Some, None}
 use Rattle.source.specs.Meaning.{Meaning, Proper, count-of, module-at}
@@ -22,7 +23,7 @@ use Rattle.ways.specs.Targets.{flag}
 use Rattle.ways.specs.Ways.{Targets}
 use Rattle.tla.specs.Awaiting.{has-await, AwaitAt}
 use Rattle.tla.specs.Search.{imports-of, enter, Searches, ends, passes, stops, finds, goes-on, Told}
-use Rattle.tla.proofs.Targets.{Each, each-as, of-import, imports-led, imports-inside}
+use Rattle.tla.proofs.Targets.{of-import, imports-led, imports-inside}
 use Rattle.tla.proofs.Whole.{awaits-at, imports-within}
 
 -- how many are not yet entered
@@ -104,7 +105,7 @@ module _ (w : Meaning) (proper : Proper w) (m : ℕ) where
   Found None = Unit {0}
   Found (Some s) = AwaitAt w s × Leads (Imports w) m s
 
-  pub searched-sound : {e last : List YesNo} {ts : List ℕ} {r : Option ℕ} → Each (Leads (Imports w) m) ts → Searches w e ts r last → Found r
+  pub searched-sound : {e last : List YesNo} {ts : List ℕ} {r : Option ℕ} → All (Leads (Imports w) m) ts → Searches w e ts r last → Found r
   searched-sound all ends = tt
   searched-sound all (passes h d) = searched-sound (all .1) d
   searched-sound all (stops h a) = (a, all .0)
@@ -116,11 +117,11 @@ abbrev Entered : List YesNo → ℕ → Type 0
 Entered e x = flag e x ≡ true
 
 pub record Done (w : Meaning) (e last : List YesNo) (ts : List ℕ) : Type 0 where
-  pub all : Each (Entered last) ts
-  pub closed : (x : ℕ) → Entered last x → Entered e x ⊎ ((has-await (module-at w x) ≡ false) × Each (Entered last) (imports-of w x))
+  pub all : All (Entered last) ts
+  pub closed : (x : ℕ) → Entered last x → Entered e x ⊎ ((has-await (module-at w x) ≡ false) × All (Entered last) (imports-of w x))
 
 module _ (w : Meaning) (proper : Proper w) (targets : Targets w) where
-  pub searched-done : {e last : List YesNo} {ts : List ℕ} {r : Option ℕ} → r ≡ None → count-of w ≤ length e → Each (λ t. t < count-of w) ts → Searches w e ts r last → Done w e last ts
+  pub searched-done : {e last : List YesNo} {ts : List ℕ} {r : Option ℕ} → r ≡ None → count-of w ≤ length e → All (λ t. t < count-of w) ts → Searches w e ts r last → Done w e last ts
   searched-done z long inside ends = record { all = tt; closed = λ x h. inl h }
   searched-done z long inside (passes {t} h d) =
       let rest = searched-done z long (inside .1) d in
@@ -131,7 +132,7 @@ module _ (w : Meaning) (proper : Proper w) (targets : Targets w) where
       let below = searched-done refl (omega (arith, enter-long e t)) (imports-inside w proper targets t) d in
       let rest = searched-done z (omega (arith, searched-long w d, enter-long e t)) (inside .1) after in
       let keep = searched-kept w after in
-      let lead-in : (x : ℕ) → Each (Entered next) (imports-of w x) → Each (Entered last) (imports-of w x) = λ x. each-as (Entered next) (Entered last) keep (imports-of w x) in
+      let lead-in : (x : ℕ) → All (Entered next) (imports-of w x) → All (Entered last) (imports-of w x) = λ x. all-weaker (Entered next) (Entered last) keep (imports-of w x) in
       record {
         all = (keep t (searched-kept w d t (enter-same e t (omega (arith, inside .0)))), rest .all);
         closed = λ x y. elim (rest .closed x y) [
@@ -139,7 +140,7 @@ module _ (w : Meaning) (proper : Proper w) (targets : Targets w) where
           | inl y1 ↦ elim (below .closed x y1) [
             | inr c ↦ inr (c .0, lead-in x (c .1))
             | inl y2 ↦ elim (cases-eq x t) [
-              | inl q ↦ inr (ap (λ (v : ℕ). has-await (module-at w v)) q ∙ n, lead-in x (subst (λ (v : ℕ). Each (Entered next) (imports-of w v)) (sym q) (below .all)))
+              | inl q ↦ inr (ap (λ (v : ℕ). has-await (module-at w v)) q ∙ n, lead-in x (subst (λ (v : ℕ). All (Entered next) (imports-of w v)) (sym q) (below .all)))
               | inr ne ↦ inl (sym (enter-other e t x ne) ∙ y2)
             ]
           ]
@@ -147,7 +148,7 @@ module _ (w : Meaning) (proper : Proper w) (targets : Targets w) where
       }
 
   module _ (e last : List YesNo) (m : ℕ) (long : count-of w ≤ length e) (lt : m < count-of w) (clear : (x : ℕ) → x < count-of w → flag e x ≡ false) where
-    step : Done w e last (m ∷ []) → (x : ℕ) → x < count-of w → Entered last x → (has-await (module-at w x) ≡ false) × Each (Entered last) (imports-of w x)
+    step : Done w e last (m ∷ []) → (x : ℕ) → x < count-of w → Entered last x → (has-await (module-at w x) ≡ false) × All (Entered last) (imports-of w x)
     step d x h y = elim (d .closed x y) [ inl o ↦ absurd (both-ways _ (clear x h) o) | inr c ↦ c ]
 
     reached : Done w e last (m ∷ []) → (x : ℕ) → Leads (Imports w) m x → Entered last x

@@ -4,6 +4,7 @@ use mathlib.Core.List.{List, [], _∷_, _++_, append-assoc}
 use Prim.Native.Nat.{ℕ, _+_, _-_, _<_, _≤_}
 use native.Mathlib.Omega.{arith}
 use lib.ListN.{length, getD, take, drop}
+use Rattle.std.proofs.shelf.Elements.{all-getD}
 use Rattle.std.proofs.shelf.Lists.{take-more, take-all, take-append-drop, drop-more, length-append, length-take-le, getD-append-left, getD-append-add, getD-take, getD-map, joined-more}
 use Rattle.std.specs.Joined.{joined}
 use Rattle.source.specs.Meaning.{Meaning, Proper, Scanned, count-of, scanned-at, past-modules}
@@ -11,7 +12,7 @@ use Rattle.spread.specs.declared.arrow.Arrow.{Arrow}
 use Rattle.spread.specs.Leads.{no-arrow}
 use Rattle.ways.specs.Ways.{Targets}
 use Rattle.tla.specs.Search.{imports-in, imports-of, imports-before, Laid}
-use Rattle.tla.proofs.Targets.{each-at, imports-inside}
+use Rattle.tla.proofs.Targets.{imports-inside}
 
 abbrev pub scanned-imports : Scanned → List ℕ
 scanned-imports s = imports-in (s .records)
@@ -80,4 +81,4 @@ module _ (w : Meaning) (first : List ℕ) (arrows : List Arrow) (laid : Laid w f
         ∙ ap (λ (k : ℕ). getD arrows i no-arrow .to ∷ drop k (imports-of w m)) next
 
     pub arrow-inside : Proper w → Targets w → getD arrows i no-arrow .to < count-of w
-    arrow-inside proper targets = subst (λ (t : ℕ). t < count-of w) (sym arrow-is) (each-at (λ t. t < count-of w) (imports-of w m) (i - getD first m 0) place (imports-inside w proper targets m))
+    arrow-inside proper targets = subst (λ (t : ℕ). t < count-of w) (sym arrow-is) (all-getD (λ t. t < count-of w) (imports-of w m) (i - getD first m 0) 0 place (imports-inside w proper targets m))

@@ -8,6 +8,7 @@
 --   no-row, row-in            the i-th row, and what a look-up finds past the last
 --   RowOf                     a row is that of record k of module m, a `Require` of module t
 --   RowsWritten               the rows of the modules below `done` stand in their places, n in all, and the others stay
+--   Waiting, RowCount         a test is yes exactly of the modules that wait; there are n rows
 --   RowAt                     the i-th row is that of some `Require` of a module that waits
 --   AwaitRows                 all rows stand in their places, one for each such record and no others
 use mathlib.Core.Path.{_≡_}
@@ -73,6 +74,12 @@ pub record RowsWritten (w : Meaning) (waits : ℕ → Bool) (done : ℕ) (old ne
   pub each : (m k t : ℕ) → m < done → Points w m k Require t → waits t ≡ true → RowOf w m k t (row-in new (row-place w waits m k))
   pub rest : (i : ℕ) → n ≤ i → row-in new i ≡ row-in old i
 
+abbrev pub Waiting : Meaning → (ℕ → Bool) → Type 0
+Waiting w waits = (t : ℕ) → t < count-of w → (waits t ≡ true) ↔ Awaits w t
+
+abbrev pub RowCount : Meaning → ℕ → Type 0
+RowCount w n = (waits : ℕ → Bool) × Waiting w waits × (n ≡ row-total w waits)
+
 pub record RowAt (w : Meaning) (waits : ℕ → Bool) (i : ℕ) : Type 0 where
   pub importer : ℕ
   pub place : ℕ
@@ -83,7 +90,7 @@ pub record RowAt (w : Meaning) (waits : ℕ → Bool) (i : ℕ) : Type 0 where
 
 pub record AwaitRows (w : Meaning) (old new : List AwaitRow) (n : ℕ) : Type 0 where
   pub waits : ℕ → Bool
-  pub when : (t : ℕ) → t < count-of w → (waits t ≡ true) ↔ Awaits w t
+  pub when : Waiting w waits
   pub count : n ≡ row-total w waits
   pub all : (i : ℕ) → i < n → RowAt w waits i
   pub long : length new ≡ length old

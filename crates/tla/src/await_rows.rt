@@ -2,13 +2,13 @@
 // gives a row.
 ghost use mathlib.Core.Path.{_≡_};
 ghost use mathlib.Core.Bool.{_&&_};
-ghost use Prim.Native.Nat.{_<_, _≤_};
+ghost use Prim.Native.Nat.{ℕ, _<_, _≤_};
 ghost use lib.ListN.{length};
 ghost use Rattle.source.specs.Meaning.{count-of};
 ghost use Rattle.marks.specs.Passes.{Awaits};
 ghost use Rattle.ways.specs.Targets.{flag, Filled, is-require};
 ghost use Rattle.ways.specs.Ways.{Targets, record-total};
-ghost use Rattle.tla.specs.Rows.{await-span, row-total, RowOf, RowsWritten, AwaitRows};
+ghost use Rattle.tla.specs.Rows.{await-span, row-total, RowOf, RowsWritten, RowCount, AwaitRows};
 ghost use Rattle.tla.specs.Search.{Laid};
 use crate::search::copy_imports;
 use crate::search::tla_source;
@@ -46,12 +46,15 @@ fn await_span(module: Module) -> Span
     }
 }
 
-/// How many rows the facts make. An external module has no records, so every module is looked at.
+/// How many rows there are, where the facts say which modules wait. An external module has no records, so every module
+/// is looked at.
 pub fn count_await_rows<S: ModuleSource>(source: &S, facts: &[YesNo]) -> usize
     requires records { ⌜ record-total (meaning (now source)) ≤ 32768 ⌝ }
     requires facts { ⌜ count-of (meaning (now source)) ≤ length (now facts) ⌝ }
+    requires waits { ⌜ Filled (count-of (meaning (now source))) (Awaits (meaning (now source))) (now facts) ⌝ }
     requires targets { ⌜ Targets (meaning (now source)) ⌝ }
-    ensures { λ r. ⌜ r ≡ row-total (meaning (now (source .entry))) (flag (now (facts .entry))) ⌝ }
+    ensures count { λ r. ⌜ r ≡ row-total (meaning (now (source .entry))) (flag (now (facts .entry))) ⌝ }
+    ensures only { λ r. ⌜ ((other : ℕ) → RowCount (meaning (now (source .entry))) other → other ≡ r) ⌝ }
 {
     let mut n: usize = 0;
     for m in 0..source.module_count() {

@@ -1,9 +1,11 @@
-use mathlib.Core.Path.{sym, _∙_}
+use mathlib.Core.Path.{_≡_, sym, _∙_}
 use Prim.Native.Nat.{_<_}
 use native.Mathlib.Omega.{arith}
 use borrow.Author.Needs.{needs}
 use Rattle.source.specs.Meaning.{count-of, records-in}
 use Rattle.ways.specs.Targets.{flag}
+use Rattle.tla.specs.Rows.{row-total}
+use Rattle.tla.proofs.Counted.{total-one}
 use Rattle.tla.proofs.Looked.{looked-none, looked-gives, looked-below}
 use Rattle.tla.proofs.Places.{before-all, place-all, place-yes, place-no, place-room, total-le}
 use Rattle.tla.proofs.await_rows.count_await_rows.Needs as need
@@ -56,4 +58,9 @@ loop-m-again g c =
 pub returns : need.returns
 returns g c =
     let w = g .S·ModuleSource .meaning (c .args .source .now) in
-    c .loop-m .inv ∙ before-all w (flag (c .args .facts .now)) (c .loop-m .m) (omega (arith, c .module-count-m-end .ensures, c .loop-m .kept .m-end))
+    let waits = flag (c .args .facts .now) in
+    let all : c .loop-m .n ≡ row-total w waits = c .loop-m .inv ∙ before-all w waits (c .loop-m .m) (omega (arith, c .module-count-m-end .ensures, c .loop-m .kept .m-end)) in
+    record {
+      count = all;
+      only = λ other o. o .2 ∙ total-one w (g .S·ModuleSource .proper (c .args .source .now)) (c .pre .targets) (o .0) waits (o .1) (c .pre .waits) ∙ sym all;
+    }

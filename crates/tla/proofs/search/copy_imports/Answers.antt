@@ -8,12 +8,9 @@ use Rattle.source.specs.Meaning.{count-of, records-in, record-at}
 use Rattle.marks.proofs.Records.{kind-looked, target-looked}
 use Rattle.spread.specs.declared.arrow.Arrow.{Arrow}
 use Rattle.ways.specs.Ways.{is-import, record-total}
-use Rattle.tla.proofs.Copies.{Copied, so-far, so-far-none, so-far-all, led-none, led-other, led-one, copied-over, copied-room, copied-push, begun-more, laid-all}
+use Rattle.tla.proofs.Copies.{Copied, so-far, so-far-all, led-none, led-other, led-one, copied-over, copied-room, copied-push, begun-more, laid-all}
 use Rattle.tla.proofs.search.copy_imports.Needs as need
 use Rattle.tla.proofs.search.copy_imports.Needs.{then-is-import, else-is-import}
-
-pub loop-k-holds : need.loop-k-holds
-loop-k-holds g c = subst (λ (ts : List ℕ). Copied ts (c .loop-m .arrows) (c .loop-m .n)) (sym (so-far-none (g .S·ModuleSource .meaning (c .args .source .now)) (c .loop-m .m))) (c .loop-m .inv .0)
 
 pub loop-k-again-in-rest : need.loop-k-again-in-rest
 loop-k-again-in-rest g c =
