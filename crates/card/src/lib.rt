@@ -1,4 +1,6 @@
 // The card: an image of modules and their records, checked and read in place.
+#![tactic(auto)]
+
 mod bytes;
 mod check;
 mod fields;

@@ -1,4 +1,6 @@
 // Any source, written as a card.
+#![tactic(auto)]
+
 ghost use Rattle.std.specs.Prelude.{◌≡◌, ◌+◌, ◌*◌, ◌<◌, ◌≤◌, map, length, MatchOption};
 ghost use Rattle.std.specs.List.{AllByRecursion as All};
 ghost use Rattle.source.specs.Meaning.{count_of, records_of, records_in};

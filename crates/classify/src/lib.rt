@@ -1,4 +1,6 @@
 // The whole job of a link: every call in its turn, over memory that is sized by the source.
+#![tactic(auto)]
+
 mod error;
 mod job;
 

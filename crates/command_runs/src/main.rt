@@ -1,5 +1,7 @@
 // Runs of the program, one for each line of standard input, with what each says and its status. A line `same A B` says
 // whether two files are equal.
+#![tactic(auto)]
+
 use commands::run;
 use std::fs;
 

@@ -1,4 +1,6 @@
 // The commands of the program, as functions from words to a report, so that every run can be held to what it should say.
+#![tactic(auto)]
+
 mod ask;
 mod dispatch;
 mod errors;

@@ -1,4 +1,6 @@
 // A source with some of its modules made external.
+#![tactic(auto)]
+
 ghost use Rattle.std.specs.Prelude.{◌≡◌, ◌≤◌, [], length, take};
 ghost use Rattle.external_layer.specs.Layers.{held_in, layered, hold_answer, hold_after};
 ghost use Rattle.external_layer.specs.Masks.{layered_proper};

@@ -1,4 +1,6 @@
 // What every refusal says: which rule is broken, which layer found it, and where.
+#![tactic(auto)]
+
 ghost use Rattle.std.specs.Prelude.{◌≡◌};
 ghost use Rattle.faults.specs.Faults.{refusal_number, layer_name};
 

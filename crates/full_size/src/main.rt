@@ -1,5 +1,7 @@
 // The largest sources that are allowed, by their shape: each is written as a card, checked, and classified as the card
 // reads. `full_size time` also prints how long classifying took.
+#![tactic(auto)]
+
 mod shapes;
 mod tally;
 

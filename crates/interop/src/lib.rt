@@ -1,4 +1,6 @@
 // Which `__toESM` modes an external module needs in a chunk, and whether a module in it reads the one of Node.
+#![tactic(auto)]
+
 mod check;
 mod chunk_assignments;
 mod external_import_interop;

@@ -1,4 +1,6 @@
 // The text form of interop rows: what observers recorded, what imports are written, and where modules ended up.
+#![tactic(auto)]
+
 mod read;
 mod uses;
 

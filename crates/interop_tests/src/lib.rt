@@ -1,4 +1,6 @@
 // What the questions answer, rule by rule.
+#![tactic(auto)]
+
 #[cfg(test)]
 mod tests {
     use faults::{Fault, Layer, Place, Refusal};

@@ -1,4 +1,6 @@
 // The commands that classify a source, `link` and `dot`, as functions from words to a report.
+#![tactic(auto)]
+
 mod dispatch;
 mod link;
 

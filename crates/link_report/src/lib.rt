@@ -1,4 +1,6 @@
 // What a link comes to, as lines for people and tools, and as a graph for Graphviz.
+#![tactic(auto)]
+
 mod dot;
 mod lines;
 

@@ -1,6 +1,8 @@
 // Runs of the link's calls, one for each line of standard input: `TABLE OPTIONS : CALLS`. A call may say how much it is
 // lent, as `wrap/arrows=4`. After each call stands its answer and, where it was refused, whether everything was kept; at
 // the end stand the marks and the rows of both lists. `@TABLE` among the calls hands those after it another source.
+#![tactic(auto)]
+
 mod calls;
 mod desk;
 mod words;

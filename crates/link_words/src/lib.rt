@@ -1,4 +1,6 @@
 // How a link is asked for and how its answers are told, in words.
+#![tactic(auto)]
+
 mod asked;
 mod lines;
 mod rules;

@@ -1,4 +1,6 @@
 // What the link settles of each module, and what it is asked with.
+#![tactic(auto)]
+
 mod mark;
 mod options;
 mod rows;

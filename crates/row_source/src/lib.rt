@@ -1,4 +1,6 @@
 // A source over rows in memory: module rows that each name their first record row and a count, and record rows.
+#![tactic(auto)]
+
 mod check;
 mod rows;
 mod source;

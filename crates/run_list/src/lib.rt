@@ -1,4 +1,6 @@
 // A list of link calls from begin to finish, over memory that is sized by the source.
+#![tactic(auto)]
+
 mod error;
 mod lists;
 

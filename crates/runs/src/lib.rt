@@ -1,4 +1,6 @@
 // Lists of link calls, made one after another.
+#![tactic(auto)]
+
 mod calls;
 mod finish;
 

@@ -1,4 +1,6 @@
 // Lists of calls with refused, repeated and misordered ones, and what they come to.
+#![tactic(auto)]
+
 #[cfg(test)]
 mod tests {
     use faults::{Fault, Layer, Place, Refusal};

@@ -1,4 +1,6 @@
 // Holds Tuchovai's answers against those of the Rust that stand in a file, case by case.
+#![tactic(auto)]
+
 mod cases;
 
 use cases::{Case, add_line, begin_case, our_lines};

@@ -1,4 +1,6 @@
 // What every order of link calls leaves.
+#![tactic(auto)]
+
 ghost use Rattle.settled.specs.Examples.{Worked};
 ghost use Rattle.settled.specs.First.{KindByFirst};
 ghost use Rattle.settled.specs.Theorem.{EveryOrderSettles, OneOutcome, OneSettled};

@@ -1,4 +1,6 @@
 // The words of a link stage: modules, their records, and sources of them known by their meaning.
+#![tactic(auto)]
+
 ghost use Rattle.std.specs.Prelude.{◌≡◌};
 ghost use Rattle.source.specs.Meaning.{Meaning, Proper, count_of, module_at, records_in, record_at, look_at, past_records};
 ghost use Rattle.source.specs.Numbers.{exports_number, import_number};

@@ -1,4 +1,6 @@
 //! Facts that spread along arrows: every place ends with the join of the starting facts that lead to it.
+#![tactic(auto)]
+
 mod arrow;
 mod entry_set;
 mod fact;

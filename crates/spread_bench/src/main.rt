@@ -1,4 +1,6 @@
 // What spreading costs by the shape of the arrows: `spread_bench time` also prints microseconds.
+#![tactic(auto)]
+
 use spread::{Arrow, EntrySet, Fact, YesNo, spread};
 use std::alloc::{AllocError, Global};
 use std::env;

@@ -1,4 +1,6 @@
 //! What spreading does on small graphs.
+#![tactic(auto)]
+
 #[cfg(test)]
 mod tests {
     use faults::{Fault, Layer, Place, Refusal};

@@ -1,4 +1,6 @@
 // The text form of a source: a table that people write and read.
+#![tactic(auto)]
+
 mod errors;
 mod read;
 mod write;

@@ -1,4 +1,6 @@
 // The words, numbers and flags of the text form.
+#![tactic(auto)]
+
 mod flags;
 mod numbers;
 mod words;

@@ -1,4 +1,6 @@
 // Which modules wait for a top-level await, and which one a `require` would have to wait for.
+#![tactic(auto)]
+
 mod await_rows;
 mod compute_tla;
 mod ends;

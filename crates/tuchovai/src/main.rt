@@ -1,4 +1,6 @@
 // The program: it hands its words on, prints what is answered and ends with the status.
+#![tactic(auto)]
+
 use anyhow::anyhow;
 use link_commands::run;
 use std::env;

@@ -1,4 +1,6 @@
 // The library as C and Rust link it: cards in, faults and tables of rows out.
+#![tactic(auto)]
+
 mod calls;
 mod numbers;
 mod options;

@@ -1,4 +1,6 @@
 // Facts that spread along the records of a source: which records lead on, for each question, and in which direction.
+#![tactic(auto)]
+
 ghost use Rattle.std.specs.Prelude.{◌≡◌, ◌≤◌, length};
 ghost use Rattle.source.specs.Meaning.{count_of, record_at};
 ghost use Rattle.ways.specs.Ways.{is_import, brings, followed, drawn, record_total, Targets, Copied, Carried};

@@ -1,4 +1,6 @@
 // How a link begins, and what it ends with: a row for each wrapper.
+#![tactic(auto)]
+
 mod begin;
 mod finish;
 
