@@ -8,17 +8,17 @@ pub returns-then-more-total : goal.returns-then-more-total
 returns-then-more-total g c =
     let ss = (g.S.ModuleSource.meaning c.args.source.now).modules in
     let m = c.loop-m.m in
-    let lt : m < length ss = omega (arith, c.module-count-m-end.ensures) in
-    omega (arith, count_within ss m lt, c.record-count-more.ensures, c.loop-m.invariant.0)
+    let lt : m < length ss = omega (arith, c.module_count-m-end.ensures) in
+    omega (arith, count_within ss m lt, c.record_count-more.ensures, c.loop-m.invariant.0)
 
 pub loop-m-preserved : goal.loop-m-preserved
 loop-m-preserved g c =
     let ss = (g.S.ModuleSource.meaning c.args.source.now).modules in
     let m = c.loop-m.m in
-    let lt : m < length ss = omega (arith, c.module-count-m-end.ensures) in
-    (omega (arith, count_more ss m lt, c.record-count-more.ensures, c.loop-m.invariant.0), omega (arith, c.loop-m.invariant.1))
+    let lt : m < length ss = omega (arith, c.module_count-m-end.ensures) in
+    (omega (arith, count_more ss m lt, c.record_count-more.ensures, c.loop-m.invariant.0), omega (arith, c.loop-m.invariant.1))
 
 pub returns : goal.returns
 returns g c =
     let ss = (g.S.ModuleSource.meaning c.args.source.now).modules in
-    (c.loop-m.invariant.0 ∙ ap (λ x. length (all_records x)) (take_all c.loop-m.m ss (omega (arith, c.module-count-m-end.ensures))), c.loop-m.invariant.1)
+    (c.loop-m.invariant.0 ∙ ap (λ x. length (all_records x)) (take_all c.loop-m.m ss (omega (arith, c.module_count-m-end.ensures))), c.loop-m.invariant.1)

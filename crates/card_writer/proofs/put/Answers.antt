@@ -8,5 +8,5 @@ returns c =
     let at = c.args.at in
     let bytes = c.args.bytes.now in
     let size : at + (at + length bytes - at) ≡ at + length bytes = omega arith in
-    ap (λ (x : List ℕ). take at old ++ (x ++ drop (at + length bytes - at) (drop at old))) c.copy-from-slice.ensures.after
+    ap (λ (x : List ℕ). take at old ++ (x ++ drop (at + length bytes - at) (drop at old))) c.copy_from_slice.ensures.after
     ∙ ap (λ (x : List ℕ). take at old ++ (bytes ++ x)) (drop-drop (at + length bytes - at) at old ∙ ap (λ (n : ℕ). drop n old) size)

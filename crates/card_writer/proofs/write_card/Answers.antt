@@ -12,10 +12,10 @@ use Rattle.card_writer.proofs.write_card.Goals as goal
 pub returns-then-out-size : goal.returns-then-out-size
 returns-then-out-size g c =
     let w = g.S.ModuleSource.meaning c.args.source.now in
-    let size : 16 + 24 * c.module-count-modules.result + 18 * c.in-Some.records ≡ length (encode w) =
-    omega (arith, encode_length w, c.module-count-modules.ensures, c.in-Some.ensures.0) in
+    let size : 16 + 24 * c.module_count-modules.result + 18 * c.in-Some.records ≡ length (encode w) =
+    omega (arith, encode_length w, c.module_count-modules.ensures, c.in-Some.ensures.0) in
     record {
-      answer = ap (λ (f : Fault). Err f) c.card-fault-then-out-size.ensures ∙ too_short w (length c.args.out.now) (omega (arith, c.module-count-modules.ensures)) (omega (arith, c.in-Some.ensures)) _ size (omega arith);
+      answer = ap (λ (f : Fault). Err f) c.card_fault-then-out-size.ensures ∙ too_short w (length c.args.out.now) (omega (arith, c.module_count-modules.ensures)) (omega (arith, c.in-Some.ensures)) _ size (omega arith);
       image = refl;
       back = tt;
     }
@@ -24,22 +24,22 @@ pub returns : goal.returns
 returns g c =
     let w = g.S.ModuleSource.meaning c.args.source.now in
     let old = c.args.out.now in
-    let few : count_of w ≤ 4096 = omega (arith, c.module-count-modules.ensures) in
+    let few : count_of w ≤ 4096 = omega (arith, c.module_count-modules.ensures) in
     let total : c.in-Some.records ≡ total_records w = c.in-Some.ensures.0 in
     let records : total_records w ≤ 32768 = omega (arith, c.in-Some.ensures) in
-    let size : 16 + 24 * c.module-count-modules.result + 18 * c.in-Some.records ≡ length (encode w) =
-    omega (arith, encode_length w, c.module-count-modules.ensures) in
-    let head : c.head-block-head.result ≡ encode_head w =
-    c.head-block-head.ensures
-    ∙ ap (λ (n : ℕ). block 16 1 (le4 n ++ (le4 c.module-count-modules.result ++ le4 c.in-Some.records))) c.runtime.ensures
-    ∙ ap (λ (n : ℕ). block 16 1 (le4 w.runtime ++ (le4 n ++ le4 c.in-Some.records))) c.module-count-modules.ensures
+    let size : 16 + 24 * c.module_count-modules.result + 18 * c.in-Some.records ≡ length (encode w) =
+    omega (arith, encode_length w, c.module_count-modules.ensures) in
+    let head : c.head_block-head.result ≡ encode_head w =
+    c.head_block-head.ensures
+    ∙ ap (λ (n : ℕ). block 16 1 (le4 n ++ (le4 c.module_count-modules.result ++ le4 c.in-Some.records))) c.runtime.ensures
+    ∙ ap (λ (n : ℕ). block 16 1 (le4 w.runtime ++ (le4 n ++ le4 c.in-Some.records))) c.module_count-modules.ensures
     ∙ ap (λ (n : ℕ). block 16 1 (le4 w.runtime ++ (le4 (count_of w) ++ le4 n))) total in
-    let image = whole_written w old c.put.new.out c.write-modules.new.out c.write-records.new.out c.head-block-head.result _ size head
-    c.put.ensures c.write-modules.ensures.image c.write-records.ensures.image in
-    let runtime : Fits32 w.runtime = omega (arith, c.runtime.ensures, c.runtime.type-inv) in
-    let fits = writable w (g.S.ModuleSource.proper c.args.source.now) runtime few records c.write-modules.ensures.fits c.write-records.ensures.fits in
+    let image = whole_written w old c.put.new.out c.write_modules.new.out c.write_records.new.out c.head_block-head.result _ size head
+    c.put.ensures c.write_modules.ensures.image c.write_records.ensures.image in
+    let runtime : Fits32 w.runtime = omega (arith, c.runtime.ensures, c.runtime.type_inv) in
+    let fits = writable w (g.S.ModuleSource.proper c.args.source.now) runtime few records c.write_modules.ensures.fits c.write_records.ensures.fits in
     record {
       answer = long_enough w (length old) few records _ size (omega arith);
       image = image;
-      back = reads_back w c.write-records.new.out _ _ fits size image;
+      back = reads_back w c.write_records.new.out _ _ fits size image;
     }

@@ -12,40 +12,40 @@ use Rattle.card_writer.specs.Written.{put_at, AwaitFits}
 use Rattle.card_writer.proofs.Steps.{count_more, count_within, module_turn}
 use Rattle.card_writer.proofs.write_modules.Goals as goal
 
-pub overflow-cast-first : goal.overflow-cast-first
-overflow-cast-first g c =
+pub overflow_cast-first : goal.overflow_cast-first
+overflow_cast-first g c =
     let ss = (g.S.ModuleSource.meaning c.args.source.now).modules in
-    let lt : c.loop-m.m < length ss = omega (arith, c.module-count-m-end.ensures) in
+    let lt : c.loop-m.m < length ss = omega (arith, c.module_count-m-end.ensures) in
     omega (arith, count_within ss c.loop-m.m lt, c.loop-m.invariant.0, c.requires.records)
 
-pub overflow-cast-count : goal.overflow-cast-count
-overflow-cast-count g c =
+pub overflow_cast-count : goal.overflow_cast-count
+overflow_cast-count g c =
     let ss = (g.S.ModuleSource.meaning c.args.source.now).modules in
-    let lt : c.loop-m.m < length ss = omega (arith, c.module-count-m-end.ensures) in
-    omega (arith, count_within ss c.loop-m.m lt, c.record-count-count.ensures, c.requires.records)
+    let lt : c.loop-m.m < length ss = omega (arith, c.module_count-m-end.ensures) in
+    omega (arith, count_within ss c.loop-m.m lt, c.record_count-count.ensures, c.requires.records)
 
-pub overflow-add-first : goal.overflow-add-first
-overflow-add-first g c =
+pub overflow_add-first : goal.overflow_add-first
+overflow_add-first g c =
     let ss = (g.S.ModuleSource.meaning c.args.source.now).modules in
-    let lt : c.loop-m.m < length ss = omega (arith, c.module-count-m-end.ensures) in
-    omega (arith, count_within ss c.loop-m.m lt, c.record-count-count.ensures, c.loop-m.invariant.0, c.requires.records)
+    let lt : c.loop-m.m < length ss = omega (arith, c.module_count-m-end.ensures) in
+    omega (arith, count_within ss c.loop-m.m lt, c.record_count-count.ensures, c.loop-m.invariant.0, c.requires.records)
 
 pub loop-m-preserved : goal.loop-m-preserved
 loop-m-preserved g c =
     let ss = (g.S.ModuleSource.meaning c.args.source.now).modules in
     let m = c.loop-m.m in
-    let lt : m < length ss = omega (arith, c.module-count-m-end.ensures) in (
-      omega (arith, count_more ss m lt, c.record-count-count.ensures, c.loop-m.invariant.0),
-      module_turn ss m c.args.out.now c.loop-m.out c.put.new.out c.module-block-block.result c.module.result c.loop-m.first c.record-count-count.result
-          lt (omega (arith, c.requires.room)) c.loop-m.invariant.1 c.loop-m.invariant.0 c.record-count-count.ensures c.module.ensures c.module-block-block.ensures.bytes c.put.ensures,
+    let lt : m < length ss = omega (arith, c.module_count-m-end.ensures) in (
+      omega (arith, count_more ss m lt, c.record_count-count.ensures, c.loop-m.invariant.0),
+      module_turn ss m c.args.out.now c.loop-m.out c.put.new.out c.module_block-block.result c.module.result c.loop-m.first c.record_count-count.result
+          lt (omega (arith, c.requires.room)) c.loop-m.invariant.1 c.loop-m.invariant.0 c.record_count-count.ensures c.module.ensures c.module_block-block.ensures.bytes c.put.ensures,
       All-more AwaitFits ss m past_modules lt c.loop-m.invariant.2
-          (subst (λ (d : Module). Fits32 (await_start d) × Fits32 (await_end d)) c.module.ensures (c.module-block-block.ensures.start, c.module-block-block.ensures.end)),
+          (subst (λ (d : Module). Fits32 (await_start d) × Fits32 (await_end d)) c.module.ensures (c.module_block-block.ensures.start, c.module_block-block.ensures.end)),
     )
 
 pub returns : goal.returns
 returns g c =
     let ss = (g.S.ModuleSource.meaning c.args.source.now).modules in
-    let whole = take_all c.loop-m.m ss (omega (arith, c.module-count-m-end.ensures)) in
+    let whole = take_all c.loop-m.m ss (omega (arith, c.module_count-m-end.ensures)) in
     record {
       image = c.loop-m.invariant.1 ∙ ap (λ x. put_at c.args.out.now 16 (flat (encode_modules 0 x))) whole;
       fits = subst (All AwaitFits) whole c.loop-m.invariant.2;

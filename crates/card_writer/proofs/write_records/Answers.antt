@@ -10,51 +10,51 @@ use Rattle.card_writer.proofs.Steps.{put_none, count_more, count_within, records
 use Rattle.card_writer.proofs.write_records.Goals as goal
 
 pub loop-m-init : goal.loop-m-init
-loop-m-init g c = (refl, put_none c.args.out.now (16 + 24 * c.module-count.result), tt)
+loop-m-init g c = (refl, put_none c.args.out.now (16 + 24 * c.module_count.result), tt)
 
-pub overflow-mul-done : goal.overflow-mul-done
-overflow-mul-done g c =
+pub overflow_mul-done : goal.overflow_mul-done
+overflow_mul-done g c =
     let ss = (g.S.ModuleSource.meaning c.args.source.now).modules in
-    let lt : c.loop-m.m < length ss = omega (arith, c.module-count-m-end.ensures) in
+    let lt : c.loop-m.m < length ss = omega (arith, c.module_count-m-end.ensures) in
     omega (arith, count_within ss c.loop-m.m lt, c.loop-m.invariant.0, c.requires.records)
 
-pub overflow-add-start-in-loop-m : goal.overflow-add-start-in-loop-m
-overflow-add-start-in-loop-m g c =
+pub overflow_add-start-in-loop-m : goal.overflow_add-start-in-loop-m
+overflow_add-start-in-loop-m g c =
     let ss = (g.S.ModuleSource.meaning c.args.source.now).modules in
-    let lt : c.loop-m.m < length ss = omega (arith, c.module-count-m-end.ensures) in
-    omega (arith, count_within ss c.loop-m.m lt, c.loop-m.invariant.0, c.requires.records, c.requires.modules, c.module-count.ensures)
+    let lt : c.loop-m.m < length ss = omega (arith, c.module_count-m-end.ensures) in
+    omega (arith, count_within ss c.loop-m.m lt, c.loop-m.invariant.0, c.requires.records, c.requires.modules, c.module_count.ensures)
 
-pub write-records-of-requires : goal.write-records-of-requires
-write-records-of-requires g c =
+pub write_records_of-requires : goal.write_records_of-requires
+write_records_of-requires g c =
     let ss = (g.S.ModuleSource.meaning c.args.source.now).modules in
-    let lt : c.loop-m.m < length ss = omega (arith, c.module-count-m-end.ensures) in
-    omega (arith, count_within ss c.loop-m.m lt, c.loop-m.invariant.0, c.requires.room, c.module-count.ensures)
+    let lt : c.loop-m.m < length ss = omega (arith, c.module_count-m-end.ensures) in
+    omega (arith, count_within ss c.loop-m.m lt, c.loop-m.invariant.0, c.requires.room, c.module_count.ensures)
 
-pub overflow-add-done : goal.overflow-add-done
-overflow-add-done g c =
+pub overflow_add-done : goal.overflow_add-done
+overflow_add-done g c =
     let ss = (g.S.ModuleSource.meaning c.args.source.now).modules in
-    let lt : c.loop-m.m < length ss = omega (arith, c.module-count-m-end.ensures) in
-    omega (arith, count_within ss c.loop-m.m lt, c.loop-m.invariant.0, c.requires.records, c.record-count-done.ensures)
+    let lt : c.loop-m.m < length ss = omega (arith, c.module_count-m-end.ensures) in
+    omega (arith, count_within ss c.loop-m.m lt, c.loop-m.invariant.0, c.requires.records, c.record_count-done.ensures)
 
 pub loop-m-preserved : goal.loop-m-preserved
 loop-m-preserved g c =
     let ss = (g.S.ModuleSource.meaning c.args.source.now).modules in
     let m = c.loop-m.m in
-    let lt : m < length ss = omega (arith, c.module-count-m-end.ensures) in (
-      omega (arith, count_more ss m lt, c.record-count-done.ensures, c.loop-m.invariant.0),
-      records_turn ss m (16 + 24 * c.module-count.result) c.loop-m.done c.args.out.now c.loop-m.out c.write-records-of.new.out
-          lt (omega (arith, c.requires.room, c.module-count.ensures)) c.loop-m.invariant.1 c.loop-m.invariant.0 c.write-records-of.ensures.image,
-      All-more SpansFit ss m past_modules lt c.loop-m.invariant.2 c.write-records-of.ensures.fits,
+    let lt : m < length ss = omega (arith, c.module_count-m-end.ensures) in (
+      omega (arith, count_more ss m lt, c.record_count-done.ensures, c.loop-m.invariant.0),
+      records_turn ss m (16 + 24 * c.module_count.result) c.loop-m.done c.args.out.now c.loop-m.out c.write_records_of.new.out
+          lt (omega (arith, c.requires.room, c.module_count.ensures)) c.loop-m.invariant.1 c.loop-m.invariant.0 c.write_records_of.ensures.image,
+      All-more SpansFit ss m past_modules lt c.loop-m.invariant.2 c.write_records_of.ensures.fits,
     )
 
 pub returns : goal.returns
 returns g c =
     let ss = (g.S.ModuleSource.meaning c.args.source.now).modules in
-    let whole = take_all c.loop-m.m ss (omega (arith, c.module-count-m-end.ensures)) in
+    let whole = take_all c.loop-m.m ss (omega (arith, c.module_count-m-end.ensures)) in
     record {
       image =
           c.loop-m.invariant.1
-          ∙ ap (λ x. put_at c.args.out.now (16 + 24 * c.module-count.result) (flat (map encode_record (all_records x)))) whole
-          ∙ ap (λ n. put_at c.args.out.now (16 + 24 * n) (flat (map encode_record (all_records ss)))) c.module-count.ensures;
+          ∙ ap (λ x. put_at c.args.out.now (16 + 24 * c.module_count.result) (flat (map encode_record (all_records x)))) whole
+          ∙ ap (λ n. put_at c.args.out.now (16 + 24 * n) (flat (map encode_record (all_records ss)))) c.module_count.ensures;
       fits = subst (All SpansFit) whole c.loop-m.invariant.2;
     }

@@ -16,17 +16,17 @@ pub loop-k-preserved : goal.loop-k-preserved
 loop-k-preserved g c =
     let rs = records_of (g.S.ModuleSource.meaning c.args.source.now) c.args.m in
     let k = c.loop-k.k in
-    let lt : k < length rs = omega (arith, c.record-count-k-end.ensures) in (
-      record_turn rs k c.args.at c.args.out.now c.loop-k.out c.put.new.out c.record-block-block.result c.record.result
-          lt (omega (arith, c.requires)) c.loop-k.invariant.0 c.record.ensures c.record-block-block.ensures.bytes c.put.ensures,
+    let lt : k < length rs = omega (arith, c.record_count-k-end.ensures) in (
+      record_turn rs k c.args.at c.args.out.now c.loop-k.out c.put.new.out c.record_block-block.result c.record.result
+          lt (omega (arith, c.requires)) c.loop-k.invariant.0 c.record.ensures c.record_block-block.ensures.bytes c.put.ensures,
       All-more SpanFits rs k past_records lt c.loop-k.invariant.1
-          (subst SpanFits c.record.ensures (c.record-block-block.ensures.start, c.record-block-block.ensures.end)),
+          (subst SpanFits c.record.ensures (c.record_block-block.ensures.start, c.record_block-block.ensures.end)),
     )
 
 pub returns : goal.returns
 returns g c =
     let rs = records_of (g.S.ModuleSource.meaning c.args.source.now) c.args.m in
-    let whole = take_all c.loop-k.k rs (omega (arith, c.record-count-k-end.ensures)) in
+    let whole = take_all c.loop-k.k rs (omega (arith, c.record_count-k-end.ensures)) in
     record {
       image = c.loop-k.invariant.0 ∙ ap (λ x. put_at c.args.out.now c.args.at (flat (map encode_record x))) whole;
       fits = subst (All SpanFits) whole c.loop-k.invariant.1;

@@ -11,12 +11,12 @@ use Rattle.ways.proofs.Copies.{long, room, Within, copied_enter, copied_skip, co
 use Rattle.ways.proofs.copy_arrows.Goals as goal
 use Rattle.ways.proofs.copy_arrows.Goals.{then-follows, else-follows}
 
-pub loop-m-preserved-in-default : goal.loop-m-preserved-in-default
-loop-m-preserved-in-default g c =
+pub loop-m-preserved-in_default : goal.loop-m-preserved-in_default
+loop-m-preserved-in_default g c =
     let w = g.S.ModuleSource.meaning c.args.source.now in
-    let h : c.loop-m.m < count_of w = omega (arith, c.module-count-m-end.ensures) in (
+    let h : c.loop-m.m < count_of w = omega (arith, c.module_count-m-end.ensures) in (
       omega (arith, c.loop-m.invariant.0, sum_by_more long w.modules c.loop-m.m past_modules h),
-      copied_skip c.args.way w c.loop-m.m c.loop-m.arrows c.loop-m.n (λ n. external_normal n.0 (c.in-default.ensures ∙ n.1)) c.loop-m.invariant.1,
+      copied_skip c.args.way w c.loop-m.m c.loop-m.arrows c.loop-m.n (λ n. external_normal n.0 (c.in_default.ensures ∙ n.1)) c.loop-m.invariant.1,
     )
 
 pub loop-k-init : goal.loop-k-init
@@ -25,30 +25,30 @@ loop-k-init g c = (
   copied_enter c.args.way (g.S.ModuleSource.meaning c.args.source.now) c.loop-m.m c.loop-m.arrows c.loop-m.n c.loop-m.invariant.1,
 )
 
-pub loop-k-preserved-in-default-target : goal.loop-k-preserved-in-default-target
-loop-k-preserved-in-default-target g c =
+pub loop-k-preserved-in_default-target : goal.loop-k-preserved-in_default-target
+loop-k-preserved-in_default-target g c =
     let w = g.S.ModuleSource.meaning c.args.source.now in (
       omega (arith, c.loop-k.invariant.0),
       copied_over c.args.way w c.loop-m.m c.loop-k.k c.loop-k.arrows c.loop-k.n
-          (λ t kind l. none_some t (sym c.in-default-target.is ∙ look_target w c.loop-m.m c.loop-k.k c.look-kind.result c.look-kind.ensures t kind l.points))
+          (λ t kind l. none_some t (sym c.in_default-target.is ∙ look_target w c.loop-m.m c.loop-k.k c.look-kind.result c.look-kind.ensures t kind l.points))
           c.loop-k.invariant.1,
     )
 
 one_more : (g : _) (c : goal.After-draw g) → c.loop-k.n < length c.loop-k.arrows
 one_more g c =
     let w = g.S.ModuleSource.meaning c.args.source.now in
-    let h : c.loop-m.m < count_of w = omega (arith, c.module-count-m-end.ensures) in
-    let i : c.loop-k.k < records_in w c.loop-m.m = omega (arith, c.record-count-k-end.ensures) in
+    let h : c.loop-m.m < count_of w = omega (arith, c.module_count-m-end.ensures) in
+    let i : c.loop-k.k < records_in w c.loop-m.m = omega (arith, c.record_count-k-end.ensures) in
     room w c.loop-m.m c.loop-k.k c.loop-k.n (length c.loop-k.arrows) h i (omega (arith, c.requires.room, c.loop-k.auto.arrows, c.loop-m.auto.arrows)) c.loop-k.invariant.0
 
-pub offset-bounds-arrows-n : goal.offset-bounds-arrows-n
-offset-bounds-arrows-n g c = let h = one_more g c in search rules
+pub offset_bounds-arrows-n : goal.offset_bounds-arrows-n
+offset_bounds-arrows-n g c = let h = one_more g c in search rules
 
 pub bounds-arrows-n : goal.bounds-arrows-n
 bounds-arrows-n g c = one_more g c
 
-pub overflow-add-n : goal.overflow-add-n
-overflow-add-n g c = let h = one_more g c in search rules
+pub overflow_add-n : goal.overflow_add-n
+overflow_add-n g c = let h = one_more g c in search rules
 
 pub loop-k-preserved : goal.loop-k-preserved
 loop-k-preserved g c =
@@ -56,8 +56,8 @@ loop-k-preserved g c =
     let way = c.args.way in
     let m = c.loop-m.m in
     let k = c.loop-k.k in
-    let h : m < count_of w = omega (arith, c.module-count-m-end.ensures) in
-    let i : k < records_in w m = omega (arith, c.record-count-k-end.ensures) in
+    let h : m < count_of w = omega (arith, c.module_count-m-end.ensures) in
+    let i : k < records_in w m = omega (arith, c.record_count-k-end.ensures) in
     let room-here = room w m k c.loop-k.n (length c.loop-k.arrows) h i (omega (arith, c.requires.room, c.loop-k.auto.arrows, c.loop-m.auto.arrows)) c.loop-k.invariant.0 in
     let x = c.look-kind.result in
     let looked = c.look-kind.ensures in
@@ -82,9 +82,9 @@ loop-k-preserved g c =
 pub loop-m-preserved : goal.loop-m-preserved
 loop-m-preserved g c =
     let w = g.S.ModuleSource.meaning c.args.source.now in
-    let h : c.loop-m.m < count_of w = omega (arith, c.module-count-m-end.ensures) in (
-      omega (arith, c.loop-k.invariant.0, c.record-count-k-end.ensures, sum_by_more long w.modules c.loop-m.m past_modules h),
-      copied_leave c.args.way w c.loop-m.m c.loop-k.k c.loop-k.arrows c.loop-k.n (omega (arith, c.record-count-k-end.ensures)) c.loop-k.invariant.1,
+    let h : c.loop-m.m < count_of w = omega (arith, c.module_count-m-end.ensures) in (
+      omega (arith, c.loop-k.invariant.0, c.record_count-k-end.ensures, sum_by_more long w.modules c.loop-m.m past_modules h),
+      copied_leave c.args.way w c.loop-m.m c.loop-k.k c.loop-k.arrows c.loop-k.n (omega (arith, c.record_count-k-end.ensures)) c.loop-k.invariant.1,
     )
 
 pub returns : goal.returns
@@ -92,5 +92,5 @@ returns g c =
     let w = g.S.ModuleSource.meaning c.args.source.now in
     record {
       fits = omega (arith, c.loop-m.invariant.0, sum_by-take-le long w.modules c.loop-m.m, c.requires.room, c.loop-m.auto.arrows);
-      all = copied_all c.args.way w c.loop-m.m c.loop-m.arrows c.loop-m.n (omega (arith, c.module-count-m-end.ensures)) c.loop-m.invariant.1;
+      all = copied_all c.args.way w c.loop-m.m c.loop-m.arrows c.loop-m.n (omega (arith, c.module_count-m-end.ensures)) c.loop-m.invariant.1;
     }

@@ -3,4 +3,4 @@ use Rattle.card.proofs.bytes.u16_at.Goals as goal
 
 pub returns : goal.returns
 unfolding u16_le
-returns c = c.from-le-bytes.ensures
+returns c = c.from_le_bytes.ensures

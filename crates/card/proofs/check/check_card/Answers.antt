@@ -5,6 +5,6 @@ use Rattle.card.proofs.check.check_card.Goals as goal
 
 pub returns : goal.returns
 returns c = record {
-  verdict = c.check-all.ensures;
-  exact = subst (Exact c.args.image.now) (sym c.check-all.ensures) (exact c.args.image.now (λ k. omega (arith, c.type-inv.image k)));
+  verdict = c.check_all.ensures;
+  exact = subst (Exact c.args.image.now) (sym c.check_all.ensures) (exact c.args.image.now (λ k. omega (arith, c.type_inv.image k)));
 }

@@ -5,16 +5,16 @@ use Rattle.card.specs.Cards.{modules_end, module_blocks}
 use Rattle.card.proofs.Cuts.{length_cut, modules_step}
 use Rattle.card.proofs.check.check_modules.Goals as goal
 
-pub returns-in-err-next : goal.returns-in-err-next
-returns-in-err-next c =
+pub returns-in_err-next : goal.returns-in_err-next
+returns-in_err-next c =
     let p = err_from_is_err_and c.from-residual.result c.from-residual.ensures.1 in
     let at = 16 + 24 * c.loop-m.m in
-    rw (p.1, p.2) (modules_step c.args.image.now c.loop-m.m at (at + 24 - at) c.loop-m.next (Err c.in-err-next.field-0.0) (omega arith) refl (omega arith) c.in-err-next.ensures ∙ c.loop-m.invariant)
+    rw (p.1, p.2) (modules_step c.args.image.now c.loop-m.m at (at + 24 - at) c.loop-m.next (Err c.in_err-next.field-0.0) (omega arith) refl (omega arith) c.in_err-next.ensures ∙ c.loop-m.invariant)
 
 pub loop-m-preserved : goal.loop-m-preserved
 loop-m-preserved c =
     let at = 16 + 24 * c.loop-m.m in
-    modules_step c.args.image.now c.loop-m.m at (at + 24 - at) c.loop-m.next (Ok c.in-ok-next.next) (omega arith) refl (omega arith) c.in-ok-next.ensures ∙ c.loop-m.invariant
+    modules_step c.args.image.now c.loop-m.m at (at + 24 - at) c.loop-m.next (Ok c.in_ok-next.next) (omega arith) refl (omega arith) c.in_ok-next.ensures ∙ c.loop-m.invariant
 
 pub returns : goal.returns
 returns c =

@@ -5,16 +5,16 @@ use Rattle.card.specs.Cards.{records_start, records_verdict, record_blocks}
 use Rattle.card.proofs.Cuts.{length_cut, records_step}
 use Rattle.card.proofs.check.check_records.Goals as goal
 
-pub returns-in-err-check-record : goal.returns-in-err-check-record
-returns-in-err-check-record c =
+pub returns-in_err-check_record : goal.returns-in_err-check_record
+returns-in_err-check_record c =
     let p = err_from_is_err_and c.from-residual.result c.from-residual.ensures.1 in
-    let at = (16 + 24 * c.u32-at.result) + 18 * c.loop-r.r in
-    rw (p.1, p.2) (records_step c.args.image.now c.loop-r.r at (at + 18 - at) (Err c.in-err-check-record.field-0.0) (omega arith) (omega arith) (omega arith) c.in-err-check-record.ensures ∙ c.loop-r.invariant)
+    let at = (16 + 24 * c.u32_at.result) + 18 * c.loop-r.r in
+    rw (p.1, p.2) (records_step c.args.image.now c.loop-r.r at (at + 18 - at) (Err c.in_err-check_record.field-0.0) (omega arith) (omega arith) (omega arith) c.in_err-check_record.ensures ∙ c.loop-r.invariant)
 
 pub loop-r-preserved : goal.loop-r-preserved
 loop-r-preserved c =
-    let at = (16 + 24 * c.u32-at.result) + 18 * c.loop-r.r in
-    records_step c.args.image.now c.loop-r.r at (at + 18 - at) (Ok tt) (omega arith) (omega arith) (omega arith) c.in-ok-check-record.ensures ∙ c.loop-r.invariant
+    let at = (16 + 24 * c.u32_at.result) + 18 * c.loop-r.r in
+    records_step c.args.image.now c.loop-r.r at (at + 18 - at) (Ok tt) (omega arith) (omega arith) (omega arith) c.in_ok-check_record.ensures ∙ c.loop-r.invariant
 
 pub returns : goal.returns
 returns c =

@@ -4,4 +4,4 @@ use Rattle.card_writer.proofs.blocks.bytes_of.Goals as goal
 
 pub returns : goal.returns
 unfolding le4
-returns c = record { bytes = c.to-le-bytes.ensures; fits = omega (arith, c.ranges.number.fits) }
+returns c = record { bytes = c.to_le_bytes.ensures; fits = omega (arith, c.ranges.number.fits) }

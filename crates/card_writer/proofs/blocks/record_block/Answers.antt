@@ -10,9 +10,9 @@ returns c =
     record {
       bytes = ap (λ (x : List ℕ). 18 ∷ 0 ∷ 3 ∷ 0 ∷ x)
           (begun c.number-kind.ensures c.bit-star.ensures.value
-          (two_more (spelled4 c.bytes-of.result c.target-number.result c.bytes-of.ensures.bytes ∙ ap le4 c.target-number.ensures)
-          (two_more (spelled4 c.bytes-of-2.result r.span.start c.bytes-of-2.ensures.bytes)
-          (spelled4 c.bytes-of-3.result r.span.end c.bytes-of-3.ensures.bytes))));
-      start = c.bytes-of-2.ensures.fits;
-      end = c.bytes-of-3.ensures.fits;
+          (two_more (spelled4 c.bytes_of.result c.target_number.result c.bytes_of.ensures.bytes ∙ ap le4 c.target_number.ensures)
+          (two_more (spelled4 c.bytes_of-2.result r.span.start c.bytes_of-2.ensures.bytes)
+          (spelled4 c.bytes_of-3.result r.span.end c.bytes_of-3.ensures.bytes))));
+      start = c.bytes_of-2.ensures.fits;
+      end = c.bytes_of-3.ensures.fits;
     }

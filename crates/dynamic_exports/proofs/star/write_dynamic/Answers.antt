@@ -14,12 +14,12 @@ loop-m-preserved g c =
     let m = c.loop-m.m in
     let facts = c.args.facts.now in
     let starred = c.args.starred.now in
-    let b = flag facts m && (flag starred m || c.has-star.result) in
-    let lt : m < length c.loop-m.rows = omega (arith, c.module-count-m-end.ensures, c.requires.rows, c.loop-m.auto.rows) in
+    let b = flag facts m && (flag starred m || c.has_star.result) in
+    let lt : m < length c.loop-m.rows = omega (arith, c.module_count-m-end.ensures, c.requires.rows, c.loop-m.auto.rows) in
     written_more (StarredRow w facts starred) m c.args.rows.now c.loop-m.rows c.row.result lt
     (record {
       dynamic = b;
-      when = starred_test (flag facts m) (flag starred m) c.has-star.result c.has-star.ensures;
-      row = c.row.ensures ∙ c.with-dynamic.ensures ∙ ap (λ (r : MarkRow). with_dynamic r ((row_at c.loop-m.rows m).dynamic || b)) c.read.ensures;
+      when = starred_test (flag facts m) (flag starred m) c.has_star.result c.has_star.ensures;
+      row = c.row.ensures ∙ c.with_dynamic.ensures ∙ ap (λ (r : MarkRow). with_dynamic r ((row_at c.loop-m.rows m).dynamic || b)) c.read.ensures;
     })
     c.loop-m.invariant

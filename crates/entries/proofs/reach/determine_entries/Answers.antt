@@ -5,5 +5,5 @@ use Rattle.entries.proofs.reach.determine_entries.Goals as goal
 pub returns : goal.returns
 returns g c =
     let w = g.S.ModuleSource.meaning c.args.source.now in
-    entries_did w c.args.rows.now c.write-entries.new.rows c.entry-starts.new.facts c.spread-along.new.facts
-    (omega (arith, c.requires.facts, c.entry-starts.auto.facts)) c.requires.few c.entry-starts.ensures c.spread-along.ensures c.write-entries.ensures
+    entries_did w c.args.rows.now c.write_entries.new.rows c.entry_starts.new.facts c.spread_along.new.facts
+    (omega (arith, c.requires.facts, c.entry_starts.auto.facts)) c.requires.few c.entry_starts.ensures c.spread_along.ensures c.write_entries.ensures

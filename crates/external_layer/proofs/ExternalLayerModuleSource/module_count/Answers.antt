@@ -5,4 +5,4 @@ use Rattle.external_layer.proofs.ExternalLayerModuleSource.module_count.Goals as
 pub returns : goal.returns
 returns g c =
     let s = c.args.self.now in
-    c.module-count.ensures ∙ sym (masked_length (take s.len s.held) 0 (g.S.ModuleSource.meaning s.below).modules)
+    c.module_count.ensures ∙ sym (masked_length (take s.len s.held) 0 (g.S.ModuleSource.meaning s.below).modules)

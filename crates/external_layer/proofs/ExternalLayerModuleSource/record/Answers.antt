@@ -7,7 +7,7 @@ pub returns-then-holds : goal.returns-then-holds
 returns-then-holds g c =
     let s = c.args.self.now in
     let w = g.S.ModuleSource.meaning s.below in
-    c.no-record.ensures ∙ layered_held (λ (x : Scanned). get_or x.records c.args.k past_records) (take s.len s.held) w c.args.m c.if-holds.ensures
+    c.no_record.ensures ∙ layered_held (λ (x : Scanned). get_or x.records c.args.k past_records) (take s.len s.held) w c.args.m c.if-holds.ensures
 
 pub returns : goal.returns
 returns g c =

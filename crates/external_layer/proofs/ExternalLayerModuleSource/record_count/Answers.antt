@@ -13,4 +13,4 @@ pub returns : goal.returns
 returns g c =
     let s = c.args.self.now in
     let w = g.S.ModuleSource.meaning s.below in
-    c.record-count.ensures ∙ layered_free (λ (x : Scanned). length x.records) (take s.len s.held) w c.args.m c.if-holds.ensures
+    c.record_count.ensures ∙ layered_free (λ (x : Scanned). length x.records) (take s.len s.held) w c.args.m c.if-holds.ensures

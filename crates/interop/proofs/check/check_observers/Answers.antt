@@ -5,16 +5,16 @@ use Rattle.interop.specs.Checks.{observer_verdict}
 use Rattle.interop.proofs.Zeros.{zero_observer}
 use Rattle.interop.proofs.check.check_observers.Goals as goal
 
-pub returns-in-err-check-module : goal.returns-in-err-check-module
-returns-in-err-check-module g c =
+pub returns-in_err-check_module : goal.returns-in_err-check_module
+returns-in_err-check_module g c =
     let w = g.S.ModuleSource.meaning c.args.source.now in
     let p = err_from_is_err_and c.from-residual.result c.from-residual.ensures.1 in
-    rw (p.1, p.2) (sym (c.loop-i.invariant ∙ each_refuses (observer_verdict w) c.args.observers.now c.loop-i.i zero_observer c.loop-i-test.true _ (sym c.in-err-check-module.ensures)))
+    rw (p.1, p.2) (sym (c.loop-i.invariant ∙ each_refuses (observer_verdict w) c.args.observers.now c.loop-i.i zero_observer c.loop-i-test.true _ (sym c.in_err-check_module.ensures)))
 
 pub loop-i-preserved : goal.loop-i-preserved
 loop-i-preserved g c =
     let w = g.S.ModuleSource.meaning c.args.source.now in
-    c.loop-i.invariant ∙ each_passes (observer_verdict w) c.args.observers.now c.loop-i.i zero_observer c.loop-i-test.true (sym c.in-ok-check-module.ensures)
+    c.loop-i.invariant ∙ each_passes (observer_verdict w) c.args.observers.now c.loop-i.i zero_observer c.loop-i-test.true (sym c.in_ok-check_module.ensures)
 
 pub returns : goal.returns
 returns g c =

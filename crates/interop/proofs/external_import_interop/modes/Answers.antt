@@ -3,8 +3,8 @@ use Rattle.interop.proofs.Orders.{modes_of_rows}
 use Rattle.interop.proofs.Tells.{modes_tell}
 use Rattle.interop.proofs.external_import_interop.modes.Goals as goal
 
-pub returns-in-err-check-rows : goal.returns-in-err-check-rows
-returns-in-err-check-rows g c =
+pub returns-in_err-check_rows : goal.returns-in_err-check_rows
+returns-in_err-check_rows g c =
     let w = g.S.ModuleSource.meaning c.args.source.now in
     record {
       answer = search rules;

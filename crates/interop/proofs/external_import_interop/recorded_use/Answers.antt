@@ -3,8 +3,8 @@ use Rattle.interop.proofs.Orders.{recorded_use_of_rows}
 use Rattle.interop.proofs.Tells.{recorded_use_tells}
 use Rattle.interop.proofs.external_import_interop.recorded_use.Goals as goal
 
-pub returns-in-err-check-observers : goal.returns-in-err-check-observers
-returns-in-err-check-observers g c =
+pub returns-in_err-check_observers : goal.returns-in_err-check_observers
+returns-in_err-check_observers g c =
     let w = g.S.ModuleSource.meaning c.args.source.now in
     record {
       answer = search rules;

@@ -6,16 +6,16 @@ use Rattle.faults.proofs.Checks.{each_passes, each_refuses, each_done}
 use Rattle.lawful.specs.Lawful.{record_verdict}
 use Rattle.lawful.proofs.records.check_records.Goals as goal
 
-pub returns-in-err-check-record : goal.returns-in-err-check-record
-returns-in-err-check-record g c =
+pub returns-in_err-check_record : goal.returns-in_err-check_record
+returns-in_err-check_record g c =
     let w = g.S.ModuleSource.meaning c.args.source.now in
     let m = c.args.m in
     let k = c.loop-k.k in
     let verdict = record_verdict c.args.options w c.args.importer m in
     let p = err_from_is_err_and c.from-residual.result c.from-residual.ensures.1 in
-    let lt : k < records_in w m = omega (arith, c.record-count-k-end.ensures) in
+    let lt : k < records_in w m = omega (arith, c.record_count-k-end.ensures) in
     p.1 ∙ ap Err p.2
-    ∙ sym (c.loop-k.invariant ∙ each_refuses verdict (records_of w m) k past_records lt _ (ap (λ (r : ImportRecord). verdict k r) (sym c.record.ensures) ∙ sym c.in-err-check-record.ensures))
+    ∙ sym (c.loop-k.invariant ∙ each_refuses verdict (records_of w m) k past_records lt _ (ap (λ (r : ImportRecord). verdict k r) (sym c.record.ensures) ∙ sym c.in_err-check_record.ensures))
 
 pub loop-k-preserved : goal.loop-k-preserved
 loop-k-preserved g c =
@@ -23,10 +23,10 @@ loop-k-preserved g c =
     let m = c.args.m in
     let k = c.loop-k.k in
     let verdict = record_verdict c.args.options w c.args.importer m in
-    let lt : k < records_in w m = omega (arith, c.record-count-k-end.ensures) in
-    c.loop-k.invariant ∙ each_passes verdict (records_of w m) k past_records lt (ap (λ (r : ImportRecord). verdict k r) (sym c.record.ensures) ∙ sym c.in-ok-check-record.ensures)
+    let lt : k < records_in w m = omega (arith, c.record_count-k-end.ensures) in
+    c.loop-k.invariant ∙ each_passes verdict (records_of w m) k past_records lt (ap (λ (r : ImportRecord). verdict k r) (sym c.record.ensures) ∙ sym c.in_ok-check_record.ensures)
 
 pub returns : goal.returns
 returns g c =
     let w = g.S.ModuleSource.meaning c.args.source.now in
-    sym (c.loop-k.invariant ∙ each_done (record_verdict c.args.options w c.args.importer c.args.m) (records_of w c.args.m) c.loop-k.k (omega (arith, c.record-count-k-end.ensures)))
+    sym (c.loop-k.invariant ∙ each_done (record_verdict c.args.options w c.args.importer c.args.m) (records_of w c.args.m) c.loop-k.k (omega (arith, c.record_count-k-end.ensures)))

@@ -11,21 +11,21 @@ pub returns : goal.returns
 returns g c =
     let w = g.S.ModuleSource.meaning c.args.source.now in
     let o = c.args.options in
-    let finish = c.run-calls-finish.result in
-    let marks = c.run-calls-finish.new.marks in
-    let wrappers = c.run-calls-finish.new.wrappers in
-    let all_marks : length marks ≡ c.in-ok-marks.marks.len = omega (arith, c.run-calls-finish.auto.marks, c.as-mut-slice.ensures.len) in
-    let all_wrappers : length wrappers ≡ c.in-ok-wrappers.wrappers.len = omega (arith, c.run-calls-finish.auto.wrappers, c.as-mut-slice-4.ensures.len) in
-    let held = after_lend c.in-ok-marks.marks.len c.in-ok-marks.marks.items marks all_marks in
-    let listed = after_lend c.in-ok-wrappers.wrappers.len c.in-ok-wrappers.wrappers.items wrappers all_wrappers in
-    let cut : c.truncate-2.new.self.items ≡ take (result_unwrap_or finish 0) wrappers = c.truncate-2.ensures.items ∙ ap (take c.unwrap-or.result) listed ∙ ap (λ (k : ℕ). take k wrappers) c.unwrap-or.ensures in
+    let finish = c.run_calls-finish.result in
+    let marks = c.run_calls-finish.new.marks in
+    let wrappers = c.run_calls-finish.new.wrappers in
+    let all_marks : length marks ≡ c.in_ok-marks.marks.len = omega (arith, c.run_calls-finish.auto.marks, c.as_mut_slice.ensures.len) in
+    let all_wrappers : length wrappers ≡ c.in_ok-wrappers.wrappers.len = omega (arith, c.run_calls-finish.auto.wrappers, c.as_mut_slice-4.ensures.len) in
+    let held = after_lend c.in_ok-marks.marks.len c.in_ok-marks.marks.items marks all_marks in
+    let listed = after_lend c.in_ok-wrappers.wrappers.len c.in_ok-wrappers.wrappers.items wrappers all_wrappers in
+    let cut : c.truncate-2.new.self.items ≡ take (result_unwrap_or finish 0) wrappers = c.truncate-2.ensures.items ∙ ap (take c.unwrap_or.result) listed ∙ ap (λ (k : ℕ). take k wrappers) c.unwrap_or.ensures in
     record {
       small = record {
-        marks = within c.in-ok-marks.marks.len _ 4096 (omega (arith, c.in-ok-marks.ensures.len, c.modules-of-modules.ensures));
-        awaits = omega (arith, c.truncate.ensures.len, c.truncate.new.self.ok.0, c.in-ok-awaits.ensures.len, c.records-of-records.ensures);
-        wrappers = omega (arith, c.truncate-2.ensures.len, c.truncate-2.new.self.ok.0, c.in-ok-wrappers.ensures.len, c.modules-of-modules.ensures);
+        marks = within c.in_ok-marks.marks.len _ 4096 (omega (arith, c.in_ok-marks.ensures.len, c.modules_of-modules.ensures));
+        awaits = omega (arith, c.truncate.ensures.len, c.truncate.new.self.ok.0, c.in_ok-awaits.ensures.len, c.records_of-records.ensures);
+        wrappers = omega (arith, c.truncate-2.ensures.len, c.truncate-2.new.self.ok.0, c.in_ok-wrappers.ensures.len, c.modules_of-modules.ensures);
       };
       settled =
           subst (λ (rows : List MarkRow). EndsSettled finish w o rows c.truncate-2.new.self.items) (sym held)
-          (subst (λ (list : List WrapperRow). EndsSettled finish w o marks list) (sym cut) (ends_front w o marks wrappers finish c.run-calls-finish.ensures));
+          (subst (λ (list : List WrapperRow). EndsSettled finish w o marks list) (sym cut) (ends_front w o marks wrappers finish c.run_calls-finish.ensures));
     }

@@ -32,7 +32,7 @@ returns g c =
     let o = c.args.options in
     let arrows = length c.args.arrows.now in
     let places = shortest (length c.args.facts.now) (length c.args.flags.now) (length c.args.sets.now) (length c.args.ends.now) (length c.args.found.now) in
-    let began = c.in-ok-begin.ensures in
+    let began = c.in_ok-begin.ensures in
     let first : At = record { link = c.begin.new.self; marks = c.begin.new.marks; list = c.args.list.now } in
     let old : At = record { link = c.args.link.now; marks = c.args.marks.now; list = c.args.list.now } in
     let last : At = record { link = c.loop-i.link; marks = c.loop-i.marks; list = c.loop-i.list } in

@@ -13,7 +13,7 @@ returns g c =
     let o = c.args.options in
     let arrows = length c.args.arrows.now in
     let places = shortest (length c.args.facts.now) (length c.args.flags.now) (length c.args.sets.now) (length c.args.ends.now) (length c.args.found.now) in
-    let ran = c.in-ok-run.ensures in
+    let ran = c.in_ok-run.ensures in
     let old : At = record { link = c.args.link.now; marks = c.args.marks.now; list = c.args.list.now } in
     let last : At = record { link = c.run.new.link; marks = c.run.new.marks; list = c.run.new.list } in
     let new : At = record { link = c.finish.new.self; marks = c.finish.new.marks; list = c.run.new.list } in

@@ -13,13 +13,13 @@ loop-m-preserved g c =
     let m = c.loop-m.m in
     let facts = c.args.facts.now in
     let b = (row_at c.loop-m.rows m).awaiting || flag facts m in
-    let lt : m < length c.loop-m.rows = omega (arith, c.module-count-m-end.ensures, c.requires.rows, c.loop-m.auto.rows) in
+    let lt : m < length c.loop-m.rows = omega (arith, c.module_count-m-end.ensures, c.requires.rows, c.loop-m.auto.rows) in
     written_more (AwaitingRow facts) m c.args.rows.now c.loop-m.rows c.row.result lt
-    (c.row.ensures ∙ c.with-awaiting.ensures ∙ ap (λ (r : MarkRow). with_awaiting r b) c.read.ensures)
+    (c.row.ensures ∙ c.with_awaiting.ensures ∙ ap (λ (r : MarkRow). with_awaiting r b) c.read.ensures)
     c.loop-m.invariant
 
 pub returns : goal.returns
 returns g c =
     let facts = c.args.facts.now in
     await_did (g.S.ModuleSource.meaning c.args.source.now) facts c.args.rows.now c.loop-m.rows c.requires.waits
-    (subst (λ (n : ℕ). Written n (AwaitingRow facts) c.args.rows.now c.loop-m.rows) (omega (arith, c.module-count-m-end.ensures, c.loop-m.auto.m-end)) c.loop-m.invariant)
+    (subst (λ (n : ℕ). Written n (AwaitingRow facts) c.args.rows.now c.loop-m.rows) (omega (arith, c.module_count-m-end.ensures, c.loop-m.auto.m-end)) c.loop-m.invariant)

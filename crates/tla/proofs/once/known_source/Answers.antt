@@ -12,5 +12,5 @@ returns g c =
     let w = g.S.ModuleSource.meaning c.args.source.now in
     let t = c.args.t in
     let s = c.unwrap-s.result in
-    let here : WaitsFor w t s = record { found = subst (SourceOf w t) c.unwrap-s.ensures c.tla-source.ensures.search; reached = subst (Told w t) c.unwrap-s.ensures c.tla-source.ensures.told } in
+    let here : WaitsFor w t s = record { found = subst (SourceOf w t) c.unwrap-s.ensures c.tla_source.ensures.search; reached = subst (Told w t) c.unwrap-s.ensures c.tla_source.ensures.told } in
     record { source = here; known = known_more w c.args.found.now t s (omega (arith, c.requires.found, c.requires.target)) here c.requires.known }

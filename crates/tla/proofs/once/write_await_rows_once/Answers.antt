@@ -11,13 +11,13 @@ pub returns : goal.returns
 returns g c =
     let w = g.S.ModuleSource.meaning c.args.source.now in
     let waits = flag c.args.facts.now in
-    let written = c.write-rows.ensures in
+    let written = c.write_rows.ensures in
     record {
       waits = waits;
       when = c.requires.waits;
       count = written.count ∙ before_all w waits (count_of w) refl;
       all = λ i lt. row_at_place w waits (g.S.ModuleSource.proper c.args.source.now) i (omega (arith, written.count, before_all w waits (count_of w) refl));
-      long = c.write-rows.auto.list;
+      long = c.write_rows.auto.list;
       each = λ m k t p a. written.each m k t (normal_below w m p.importer) p ((c.requires.waits t (c.requires.targets m t (k, Require, p))).1 a);
       rest = written.rest;
     }

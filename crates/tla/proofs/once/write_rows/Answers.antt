@@ -7,37 +7,37 @@ use Rattle.tla.proofs.Listed.{ModuleRows, module_over, module_push, written_more
 use Rattle.tla.proofs.Looked.{record_below, looked_none, looked_gives, looked_below, looked_waits}
 use Rattle.tla.proofs.Places.{place_room}
 use Rattle.tla.proofs.once.write_rows.Goals as goal
-use Rattle.tla.proofs.once.write_rows.Goals.{then-gives-row, else-gives-row}
+use Rattle.tla.proofs.once.write_rows.Goals.{then-gives_row, else-gives_row}
 
-pub loop-k-preserved-in-default : goal.loop-k-preserved-in-default
-loop-k-preserved-in-default g c =
+pub loop-k-preserved-in_default : goal.loop-k-preserved-in_default
+loop-k-preserved-in_default g c =
     let w = g.S.ModuleSource.meaning c.args.source.now in
     let waits = flag c.args.facts.now in
     let m = c.loop-m.m in
     let k = c.loop-k.k in
     let over =
-    module_over w waits m c.loop-m.list (omega (arith, c.module-count-m-end.ensures)) k c.loop-k.list c.loop-k.n (omega (arith, c.record-count-k-end.ensures)) c.loop-k.invariant.0
-    (looked_none w waits m k c.look-kind.result c.look-kind.ensures c.in-default.is) in
+    module_over w waits m c.loop-m.list (omega (arith, c.module_count-m-end.ensures)) k c.loop-k.list c.loop-k.n (omega (arith, c.record_count-k-end.ensures)) c.loop-k.invariant.0
+    (looked_none w waits m k c.look-kind.result c.look-kind.ensures c.in_default.is) in
     (over, c.loop-k.invariant.1)
 
-pub gives-row-requires : goal.gives-row-requires
-gives-row-requires g c =
+pub gives_row-requires : goal.gives_row-requires
+gives_row-requires g c =
     let w = g.S.ModuleSource.meaning c.args.source.now in
-    let lt = looked_below w (flag c.args.facts.now) c.loop-m.m c.loop-k.k c.look-kind.result c.look-kind.ensures (g.S.ModuleSource.proper c.args.source.now) (omega (arith, c.record-count-k-end.ensures)) c.in-Some.t c.in-Some.is c.requires.targets in
+    let lt = looked_below w (flag c.args.facts.now) c.loop-m.m c.loop-k.k c.look-kind.result c.look-kind.ensures (g.S.ModuleSource.proper c.args.source.now) (omega (arith, c.record_count-k-end.ensures)) c.in-Some.t c.in-Some.is c.requires.targets in
     omega (arith, lt, c.requires.facts)
 
-pub await-row-row-requires : goal.await-row-row-requires
-await-row-row-requires g c =
+pub await_row-row-requires : goal.await_row-row-requires
+await_row-row-requires g c =
     let w = g.S.ModuleSource.meaning c.args.source.now in
     let waits = flag c.args.facts.now in
     let m = c.loop-m.m in
     let k = c.loop-k.k in
     let t = c.in-Some.t in
     let proper = g.S.ModuleSource.proper c.args.source.now in
-    let h : m < count_of w = omega (arith, c.module-count-m-end.ensures) in
-    let i : k < records_in w m = omega (arith, c.record-count-k-end.ensures) in
+    let h : m < count_of w = omega (arith, c.module_count-m-end.ensures) in
+    let i : k < records_in w m = omega (arith, c.record_count-k-end.ensures) in
     let below = looked_below w waits m k c.look-kind.result c.look-kind.ensures proper i t c.in-Some.is c.requires.targets in
-    let waiting = looked_waits w waits m k c.look-kind.result c.look-kind.ensures proper i t c.in-Some.is (sym c.if-gives-row.ensures) in
+    let waiting = looked_waits w waits m k c.look-kind.result c.look-kind.ensures proper i t c.in-Some.is (sym c.if-gives_row.ensures) in
     record {
       small = c.requires.small;
       laid = c.requires.laid;
@@ -57,15 +57,15 @@ bounds-list-n g c =
     let waits = flag c.args.facts.now in
     let m = c.loop-m.m in
     let k = c.loop-k.k in
-    let yes = looked_gives w waits m k c.look-kind.result c.look-kind.ensures c.in-Some.t c.in-Some.is ∙ sym c.if-gives-row.ensures in
-    let lt = place_room w waits m (omega (arith, c.module-count-m-end.ensures)) k (omega (arith, c.record-count-k-end.ensures)) yes in
+    let yes = looked_gives w waits m k c.look-kind.result c.look-kind.ensures c.in-Some.t c.in-Some.is ∙ sym c.if-gives_row.ensures in
+    let lt = place_room w waits m (omega (arith, c.module_count-m-end.ensures)) k (omega (arith, c.record_count-k-end.ensures)) yes in
     omega (arith, lt, c.loop-k.invariant.0.count, c.requires.room, c.loop-k.auto.list, c.loop-m.auto.list)
 
-pub offset-bounds-list-n : goal.offset-bounds-list-n
-offset-bounds-list-n g c = let h = bounds-list-n g c in search rules
+pub offset_bounds-list-n : goal.offset_bounds-list-n
+offset_bounds-list-n g c = let h = bounds-list-n g c in search rules
 
-pub overflow-add-n : goal.overflow-add-n
-overflow-add-n g c = let h = bounds-list-n g c in search rules
+pub overflow_add-n : goal.overflow_add-n
+overflow_add-n g c = let h = bounds-list-n g c in search rules
 
 pub loop-k-preserved : goal.loop-k-preserved
 loop-k-preserved g c =
@@ -79,25 +79,25 @@ loop-k-preserved g c =
     let looked = c.look-kind.ensures in
     let start = c.loop-m.list in
     let list = c.loop-k.list in
-    let h : m < count_of w = omega (arith, c.module-count-m-end.ensures) in
-    let i : k < records_in w m = omega (arith, c.record-count-k-end.ensures) in
+    let h : m < count_of w = omega (arith, c.module_count-m-end.ensures) in
+    let i : k < records_in w m = omega (arith, c.record_count-k-end.ensures) in
     let gives = looked_gives w waits m k x looked t c.in-Some.is in
-    elim c.if-gives-row.branch [
-      | then-gives-row v ↦
-          let yes = sym v.if-gives-row.ensures in
+    elim c.if-gives_row.branch [
+      | then-gives_row v ↦
+          let yes = sym v.if-gives_row.ensures in
           let waiting = looked_waits w waits m k x looked (g.S.ModuleSource.proper c.args.source.now) i t c.in-Some.is yes in
-          let row = v.await-row-row.result in
+          let row = v.await_row-row.result in
           let lt = place_room w waits m h k i (gives ∙ yes) in
           let room : n < length list = omega (arith, lt, c.loop-k.invariant.0.count, c.requires.room, c.loop-k.auto.list, c.loop-m.auto.list) in (
-            subst (λ (rows : List AwaitRow). ModuleRows w waits m (k + 1) start rows c.if-gives-row.n) (sym v.list-is)
+            subst (λ (rows : List AwaitRow). ModuleRows w waits m (k + 1) start rows c.if-gives_row.n) (sym v.list-is)
                 (subst (λ (z : ℕ). ModuleRows w waits m (k + 1) start (set list n row) z) (sym v.n-is)
-                (module_push w waits m start h k list n i c.loop-k.invariant.0 t row waiting.0 waiting.1 v.await-row-row.ensures.row room)),
-            subst (Known w) (sym v.found-is) v.await-row-row.ensures.known,
+                (module_push w waits m start h k list n i c.loop-k.invariant.0 t row waiting.0 waiting.1 v.await_row-row.ensures.row room)),
+            subst (Known w) (sym v.found-is) v.await_row-row.ensures.known,
           )
-      | else-gives-row v ↦ (
-        subst (λ (rows : List AwaitRow). ModuleRows w waits m (k + 1) start rows c.if-gives-row.n) (sym v.list-is)
+      | else-gives_row v ↦ (
+        subst (λ (rows : List AwaitRow). ModuleRows w waits m (k + 1) start rows c.if-gives_row.n) (sym v.list-is)
             (subst (λ (z : ℕ). ModuleRows w waits m (k + 1) start list z) (sym v.n-is)
-            (module_over w waits m start h k list n i c.loop-k.invariant.0 (gives ∙ sym v.if-gives-row.ensures))),
+            (module_over w waits m start h k list n i c.loop-k.invariant.0 (gives ∙ sym v.if-gives_row.ensures))),
         subst (Known w) (sym v.found-is) c.loop-k.invariant.1,
       )
     ]
@@ -106,5 +106,5 @@ pub loop-m-preserved : goal.loop-m-preserved
 loop-m-preserved g c =
     let more =
     written_more (g.S.ModuleSource.meaning c.args.source.now) (flag c.args.facts.now) c.loop-m.m c.loop-k.k c.args.list.now c.loop-m.list c.loop-k.list c.loop-m.n c.loop-k.n
-    (omega (arith, c.module-count-m-end.ensures)) (omega (arith, c.record-count-k-end.ensures)) c.loop-m.invariant.0 c.loop-k.invariant.0 in
+    (omega (arith, c.module_count-m-end.ensures)) (omega (arith, c.record_count-k-end.ensures)) c.loop-m.invariant.0 c.loop-k.invariant.0 in
     (more, c.loop-k.invariant.1)

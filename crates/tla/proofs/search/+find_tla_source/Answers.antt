@@ -10,18 +10,18 @@ use Rattle.tla.proofs.search.+find_tla_source.Goals as goal
 pub returns-then-entered-m : goal.returns-then-entered-m
 returns-then-entered-m g t c = passes c.if-entered-m.true ends
 
-pub returns-then-has-await : goal.returns-then-has-await
-returns-then-has-await g t c = stops c.if-entered-m.false (ap has_await (sym c.module.ensures) ∙ sym c.if-has-await.ensures)
+pub returns-then-has_await : goal.returns-then-has_await
+returns-then-has_await g t c = stops c.if-entered-m.false (ap has_await (sym c.module.ensures) ∙ sym c.if-has_await.ensures)
 
 pub bounds-arrows-i : goal.bounds-arrows-i
 bounds-arrows-i g t c =
     arrow_below (g.S.ModuleSource.meaning c.args.source.now) c.args.first.now c.args.arrows.now c.requires.laid c.args.m c.requires.place c.loop-i.i c.loop-i.auto.i c.loop-i-test.true
 
-pub offset-bounds-arrows-i : goal.offset-bounds-arrows-i
-offset-bounds-arrows-i g t c = let h = bounds-arrows-i g t c in search rules
+pub offset_bounds-arrows-i : goal.offset_bounds-arrows-i
+offset_bounds-arrows-i g t c = let h = bounds-arrows-i g t c in search rules
 
-pub find-tla-source-requires : goal.find-tla-source-requires
-find-tla-source-requires g t c κs within =
+pub find_tla_source-requires : goal.find_tla_source-requires
+find_tla_source-requires g t c κs within =
     let w = g.S.ModuleSource.meaning c.args.source.now in
     let m = c.args.m in
     let e = c.args.entered.now in
@@ -37,8 +37,8 @@ returns-in-Some g t c =
     let m = c.args.m in
     let left = imports_left w c.args.first.now c.args.arrows.now c.requires.laid m c.requires.place c.loop-i.i c.loop-i.auto.i c.loop-i-test.true in
     let s = c.in-Some.found in
-    let last = c.find-tla-source.new.entered in
-    finds c.if-entered-m.false (ap has_await (sym c.module.ensures) ∙ sym c.if-has-await.ensures)
+    let last = c.find_tla_source.new.entered in
+    finds c.if-entered-m.false (ap has_await (sym c.module.ensures) ∙ sym c.if-has_await.ensures)
     (c.loop-i.invariant.1 (Some s) last (subst (λ (ts : List ℕ). Searches w c.loop-i.entered ts (Some s) last) (sym left) (searched_found w s _ refl c.in-Some.ensures)))
 
 pub loop-i-preserved : goal.loop-i-preserved
@@ -46,7 +46,7 @@ loop-i-preserved g t c =
     let w = g.S.ModuleSource.meaning c.args.source.now in
     let m = c.args.m in
     let left = imports_left w c.args.first.now c.args.arrows.now c.requires.laid m c.requires.place c.loop-i.i c.loop-i.auto.i c.loop-i-test.true in
-    let here = c.in-default.ensures in (
+    let here = c.in_default.ensures in (
       omega (arith, c.loop-i.invariant.0, searched_fewer w here),
       λ r last d. c.loop-i.invariant.1 r last (subst (λ (ts : List ℕ). Searches w c.loop-i.entered ts r last) (sym left) (searched_on w refl here d)),
     )
@@ -57,6 +57,6 @@ returns g t c =
     let m = c.args.m in
     let e = c.loop-i.entered in
     let done : length (imports_of w m) ≤ c.loop-i.i - get_or c.args.first.now m 0 = omega (arith, last_import w c.args.first.now c.args.arrows.now c.requires.laid m c.requires.place, c.loop-i-test.false) in
-    goes_on c.if-entered-m.false (ap has_await (sym c.module.ensures) ∙ sym c.if-has-await.ensures)
+    goes_on c.if-entered-m.false (ap has_await (sym c.module.ensures) ∙ sym c.if-has_await.ensures)
     (c.loop-i.invariant.1 None e (subst (λ (ts : List ℕ). Searches w e ts None e) (sym (drop_all (c.loop-i.i - get_or c.args.first.now m 0) (imports_of w m) done)) ends))
     ends

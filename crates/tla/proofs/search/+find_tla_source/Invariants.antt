@@ -4,8 +4,8 @@ use Rattle.tla.specs.Search.{imports_of, Searches}
 use Rattle.tla.proofs.Searched.{fresh}
 use Rattle.tla.proofs.search.+find_tla_source.Given as goal
 
-abbrev pub decreases-find-tla-source : goal.decreases-find-tla-source
-decreases-find-tla-source g l = fresh l.entered.now
+abbrev pub decreases-find_tla_source : goal.decreases-find_tla_source
+decreases-find_tla_source g l = fresh l.entered.now
 
 -- whatever a search of the imports that are left comes to, a search of all of them does
 abbrev pub invariant-loop-i : goal.invariant-loop-i

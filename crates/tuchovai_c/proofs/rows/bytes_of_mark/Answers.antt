@@ -5,9 +5,9 @@ use Rattle.tuchovai_c.proofs.rows.bytes_of_mark.Goals as goal
 pub returns : goal.returns
 returns c =
     let r = c.args.row in
-    begun c.number-kind.ensures c.number-of-wrap-wrap.ensures
-    (begun c.number-of-flag-required.ensures c.number-of-flag-dynamic.ensures
-    (begun c.number-of-flag-awaiting.ensures refl
+    begun c.number-kind.ensures c.number_of_wrap-wrap.ensures
+    (begun c.number_of_flag-required.ensures c.number_of_flag-dynamic.ensures
+    (begun c.number_of_flag-awaiting.ensures refl
     (begun refl refl
-    (two_more (spelled4 c.bytes-of.result (r.entries % 4294967296) c.bytes-of.ensures)
-    (spelled4 c.bytes-of-2.result (r.entries / 4294967296) c.bytes-of-2.ensures)))))
+    (two_more (spelled4 c.bytes_of.result (r.entries % 4294967296) c.bytes_of.ensures)
+    (spelled4 c.bytes_of-2.result (r.entries / 4294967296) c.bytes_of-2.ensures)))))

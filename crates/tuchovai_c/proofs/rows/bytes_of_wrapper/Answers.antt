@@ -4,6 +4,6 @@ use Rattle.tuchovai_c.proofs.rows.bytes_of_wrapper.Goals as goal
 
 pub returns : goal.returns
 returns c =
-    begun c.number-of-wrap-wrap.ensures c.number-of-helper-helper.ensures
-    (begun c.number-of-flag-eval.ensures refl
-    (spelled4 c.bytes-of.result c.args.row.«module» c.bytes-of.ensures))
+    begun c.number_of_wrap-wrap.ensures c.number_of_helper-helper.ensures
+    (begun c.number_of_flag-eval.ensures refl
+    (spelled4 c.bytes_of.result c.args.row.«module» c.bytes_of.ensures))

@@ -5,9 +5,9 @@ use Rattle.tuchovai_c.proofs.table.table_of.Goals as goal
 
 pub returns : goal.returns
 returns c =
-    four_parts _ _ _ _ _ _ _ _ _ c.in-ok-bytes.ensures.items
-    (chosen _ _ _ _ c.extend-from-slice.ensures.items (ap is_ok c.in-ok-extend-from-slice.was))
-    c.bytes-of-head-head.ensures
-    c.in-ok-put-marks.ensures
-    c.in-ok-put-awaits.ensures
-    c.in-ok-put-wrappers.ensures
+    four_parts _ _ _ _ _ _ _ _ _ c.in_ok-bytes.ensures.items
+    (chosen _ _ _ _ c.extend_from_slice.ensures.items (ap is_ok c.in_ok-extend_from_slice.was))
+    c.bytes_of_head-head.ensures
+    c.in_ok-put_marks.ensures
+    c.in_ok-put_awaits.ensures
+    c.in_ok-put_wrappers.ensures

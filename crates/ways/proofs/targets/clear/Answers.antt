@@ -11,4 +11,4 @@ loop-m-preserved g c =
     let m = c.loop-m.m in
     below_more _ _
     (λ k h. let ne : k ≢ m = omega arith in ap (λ (x : YesNo). x.0) (get_or-set_other flags m k plain_no plain_no ne) ∙ c.loop-m.invariant k h)
-    (let lt : m < length flags = omega (arith, c.module-count-m-end.ensures, c.requires, c.loop-m.auto.flags) in ap (λ (x : YesNo). x.0) (get_or-set_same flags m plain_no plain_no lt))
+    (let lt : m < length flags = omega (arith, c.module_count-m-end.ensures, c.requires, c.loop-m.auto.flags) in ap (λ (x : YesNo). x.0) (get_or-set_same flags m plain_no plain_no lt))

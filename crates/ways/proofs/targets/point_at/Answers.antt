@@ -10,19 +10,19 @@ use Rattle.ways.proofs.Pointed.{raised_at}
 use Rattle.ways.proofs.targets.point_at.Goals as goal
 use Rattle.ways.proofs.targets.point_at.Goals.{then-picks, else-picks}
 
-pub loop-m-preserved-in-default : goal.loop-m-preserved-in-default
-loop-m-preserved-in-default g c =
+pub loop-m-preserved-in_default : goal.loop-m-preserved-in_default
+loop-m-preserved-in_default g c =
     let w = g.S.ModuleSource.meaning c.args.source.now in
     marked_skip (Picked c.args.pick w (flag c.args.from.now)) c.loop-m.m (flag c.args.flags.now) (flag c.loop-m.flags)
-    (λ j x p. external_normal p.points.importer.0 (c.in-default.ensures ∙ p.points.importer.1)) c.loop-m.invariant
+    (λ j x p. external_normal p.points.importer.0 (c.in_default.ensures ∙ p.points.importer.1)) c.loop-m.invariant
 
-pub loop-k-preserved-in-default-target : goal.loop-k-preserved-in-default-target
-loop-k-preserved-in-default-target g c =
+pub loop-k-preserved-in_default-target : goal.loop-k-preserved-in_default-target
+loop-k-preserved-in_default-target g c =
     let w = g.S.ModuleSource.meaning c.args.source.now in
     let P = Picked c.args.pick w (flag c.args.from.now) in
     marked_step P c.loop-m.m c.loop-k.k (λ x. ⊥) (flag c.loop-m.flags) (flag c.loop-k.flags) (flag c.loop-k.flags)
     (λ x b. absurd b)
-    (λ x p. none_some x (sym c.in-default-target.is ∙ look_target w c.loop-m.m c.loop-k.k c.look-kind.result c.look-kind.ensures x p.kind p.points))
+    (λ x p. none_some x (sym c.in_default-target.is ∙ look_target w c.loop-m.m c.loop-k.k c.look-kind.result c.look-kind.ensures x p.kind p.points))
     c.loop-k.invariant (λ x. raised_same (λ b. b))
 
 pub bounds-flags-t : goal.bounds-flags-t
@@ -62,11 +62,11 @@ pub loop-m-preserved : goal.loop-m-preserved
 loop-m-preserved g c =
     let w = g.S.ModuleSource.meaning c.args.source.now in
     marked_join (Picked c.args.pick w (flag c.args.from.now)) c.loop-m.m c.loop-k.k (flag c.args.flags.now) (flag c.loop-m.flags) (flag c.loop-k.flags)
-    (λ j x ge p. let lt = points_in w c.loop-m.m j x p.kind p.points in omega (arith, c.record-count-k-end.ensures)) c.loop-m.invariant c.loop-k.invariant
+    (λ j x ge p. let lt = points_in w c.loop-m.m j x p.kind p.points in omega (arith, c.record_count-k-end.ensures)) c.loop-m.invariant c.loop-k.invariant
 
 pub returns : goal.returns
 returns g c =
     let w = g.S.ModuleSource.meaning c.args.source.now in
     let P = Picked c.args.pick w (flag c.args.from.now) in
-    let all = marked_all P c.loop-m.m (flag c.args.flags.now) (flag c.loop-m.flags) (λ a j x p. let lt = normal_below w a p.points.importer in omega (arith, c.module-count-m-end.ensures)) c.loop-m.invariant in
+    let all = marked_all P c.loop-m.m (flag c.args.flags.now) (flag c.loop-m.flags) (λ a j x p. let lt = normal_below w a p.points.importer in omega (arith, c.module_count-m-end.ensures)) c.loop-m.invariant in
     record { long = c.loop-m.auto.flags; raised = λ t. raised_as (λ s. (s.0, s.1, s.3)) (λ s. (s.0, s.1, tt, s.2)) (all t) }

@@ -14,10 +14,10 @@ loop-m-preserved g c =
     let rows = c.args.rows.now in
     let pointed = c.args.pointed.now in
     let m = c.loop-m.m in
-    let lt : m < length c.loop-m.facts = omega (arith, c.module-count-m-end.ensures, c.requires.facts, c.loop-m.auto.facts) in
-    filled_more (Starts w rows pointed) m c.loop-m.facts (c.may-wrap.result && ((flag pointed m && c.is-common.result) || c.is-wrapped.result)) lt
-    (start_test c.may-wrap.result (flag pointed m) c.is-common.result c.is-wrapped.result (is_common (kind_in rows m)) (wrapped_in rows m)
-    (c.is-common.ensures ∙ ap is_common (c.kind.ensures ∙ ap (λ (r : MarkRow). r.kind) c.read-mark.ensures))
-    (c.is-wrapped.ensures ∙ ap (λ (r : MarkRow). is_wrapped r.wrap) c.read-mark.ensures)
-    c.may-wrap.ensures)
+    let lt : m < length c.loop-m.facts = omega (arith, c.module_count-m-end.ensures, c.requires.facts, c.loop-m.auto.facts) in
+    filled_more (Starts w rows pointed) m c.loop-m.facts (c.may_wrap.result && ((flag pointed m && c.is_common.result) || c.is_wrapped.result)) lt
+    (start_test c.may_wrap.result (flag pointed m) c.is_common.result c.is_wrapped.result (is_common (kind_in rows m)) (wrapped_in rows m)
+    (c.is_common.ensures ∙ ap is_common (c.kind.ensures ∙ ap (λ (r : MarkRow). r.kind) c.read-mark.ensures))
+    (c.is_wrapped.ensures ∙ ap (λ (r : MarkRow). is_wrapped r.wrap) c.read-mark.ensures)
+    c.may_wrap.ensures)
     c.loop-m.invariant

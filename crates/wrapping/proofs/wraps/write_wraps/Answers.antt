@@ -17,20 +17,20 @@ loop-m-preserved g c =
     let required = c.args.required.now in
     let m = c.loop-m.m in
     let row = row_at c.loop-m.rows m in
-    let reached = c.may-wrap.result && flag facts m in
-    let lt : m < length c.loop-m.rows = omega (arith, c.module-count-m-end.ensures, c.requires.rows, c.loop-m.auto.rows) in
+    let reached = c.may_wrap.result && flag facts m in
+    let lt : m < length c.loop-m.rows = omega (arith, c.module_count-m-end.ensures, c.requires.rows, c.loop-m.auto.rows) in
     let read = c.read-mark.ensures in
     let wrote : MarkRow → ExportsKind → Bool → Bool → MarkRow = λ r kind wrapped needed. with_required (marked_row r kind (wrapped || reached)) (needed || flag required m) in
     written_more (WrappedRow w facts required) m c.args.rows.now c.loop-m.rows c.row.result lt
     (record {
       reached = reached;
-      when = both_test c.may-wrap.result (flag facts m) c.may-wrap.ensures;
+      when = both_test c.may_wrap.result (flag facts m) c.may_wrap.ensures;
       row =
-          c.row.ensures ∙ c.with-required.ensures
+          c.row.ensures ∙ c.with_required.ensures
           ∙ ap (λ (r : MarkRow). with_required r (c.required.result || flag required m)) c.marked-marked.ensures
-          ∙ ap (λ (r : MarkRow). wrote r c.kind.result c.is-wrapped.result c.required.result) read
-          ∙ ap (λ (k : ExportsKind). wrote (read_row row) k c.is-wrapped.result c.required.result) (c.kind.ensures ∙ ap (λ (r : MarkRow). r.kind) read)
-          ∙ ap (λ (b : Bool). wrote (read_row row) row.kind b c.required.result) (c.is-wrapped.ensures ∙ ap (λ (r : MarkRow). is_wrapped r.wrap) read)
+          ∙ ap (λ (r : MarkRow). wrote r c.kind.result c.is_wrapped.result c.required.result) read
+          ∙ ap (λ (k : ExportsKind). wrote (read_row row) k c.is_wrapped.result c.required.result) (c.kind.ensures ∙ ap (λ (r : MarkRow). r.kind) read)
+          ∙ ap (λ (b : Bool). wrote (read_row row) row.kind b c.required.result) (c.is_wrapped.ensures ∙ ap (λ (r : MarkRow). is_wrapped r.wrap) read)
           ∙ ap (λ (b : Bool). wrote (read_row row) row.kind (wrapped_in c.loop-m.rows m) b) (c.required.ensures ∙ ap (λ (r : MarkRow). r.required) read);
     })
     c.loop-m.invariant

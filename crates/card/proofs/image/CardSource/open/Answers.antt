@@ -5,13 +5,13 @@ use Rattle.source.specs.Meaning.{no_modules}
 use Rattle.card.specs.Cards.{is_card, card_meaning}
 use Rattle.card.proofs.image.CardSource.open.Goals as goal
 
-pub invariant-of-result-2 : goal.invariant-of-result-2
+pub invariant_of-result-2 : goal.invariant_of-result-2
 unfolding u16_le u32_le
-invariant-of-result-2 c = (refl, (refl, tt))
+invariant_of-result-2 c = (refl, (refl, tt))
 
 pub returns : goal.returns
 unfolding u16_le u32_le
 returns c =
     let bs = c.args.image.now in
-    let refused : is_card bs ≡ false = ap is_ok (sym c.check-card.ensures.verdict) ∙ sym c.is-ok.ensures.value ∙ c.if-is-ok.false in
+    let refused : is_card bs ≡ false = ap is_ok (sym c.check_card.ensures.verdict) ∙ sym c.is_ok.ensures.value ∙ c.if-is_ok.false in
     sym (cond-false (is_card bs) (card_meaning bs) no_modules refused)

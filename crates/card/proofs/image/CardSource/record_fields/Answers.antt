@@ -5,19 +5,19 @@ use Rattle.card.specs.Fields.{first_of, record_of}
 use Rattle.card.specs.Cards.{fields_of, card_meaning, records_start}
 use Rattle.card.proofs.image.CardSource.record_fields.Goals as goal
 
-pub returns-then-k-u32-at : goal.returns-then-k-u32-at
-returns-then-k-u32-at c =
-    get_or_past (records_of (card_meaning c.args.self.now.image.now) c.args.m) c.args.k past_records (omega (arith, c.in-ok-module.ensures.counted))
+pub returns-then-k-u32_at : goal.returns-then-k-u32_at
+returns-then-k-u32_at c =
+    get_or_past (records_of (card_meaning c.args.self.now.image.now) c.args.m) c.args.k past_records (omega (arith, c.in_ok-module.ensures.counted))
 
 pub returns : goal.returns
 returns c =
     let bs = c.args.self.now.image.now in
-    let f = c.in-ok-module.module.now in
-    let r : records_start bs + 18 * (first_of f + c.args.k) ≡ 16 + 24 * c.u32-at-3.result + 18 * (c.u32-at-2.result + c.args.k) = omega arith in
+    let f = c.in_ok-module.module.now in
+    let r : records_start bs + 18 * (first_of f + c.args.k) ≡ 16 + 24 * c.u32_at-3.result + 18 * (c.u32_at-2.result + c.args.k) = omega arith in
     record {
       sized = omega arith;
       read =
-          c.in-ok-module.ensures.placed c.args.k (omega arith)
+          c.in_ok-module.ensures.placed c.args.k (omega arith)
           ∙ ap (λ (at : ℕ). record_of (fields_of (take 18 (drop at bs)))) r
           ∙ ap record_of (sym c.fields.ensures.bytes);
     }

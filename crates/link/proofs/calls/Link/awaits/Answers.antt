@@ -13,65 +13,65 @@ use Rattle.link.specs.Calls.{call_verdict, counted, AwaitAnswer}
 use Rattle.link.proofs.Accepts.{own_decides, moves_on}
 use Rattle.link.proofs.calls.Link.awaits.Goals as goal
 
-pub find-awaiting-requires : goal.find-awaiting-requires
-find-awaiting-requires g c =
+pub find_awaiting-requires : goal.find_awaiting-requires
+find_awaiting-requires g c =
     let w = g.S.ModuleSource.meaning c.args.source.now in
     let o = c.args.self.now.options in
     let lent : Lent = record { marks = length c.args.marks.now; work = Some (length c.args.arrows.now, c.min-shortest.result) } in
-    let ok = sym c.in-ok-check-source.ensures in
+    let ok = sym c.in_ok-check_source.ensures in
     let work = worked o w lent ok (length c.args.arrows.now) c.min-shortest.result refl in
     record { small = small o w lent ok; facts = omega (arith, work.1, c.min-shortest.ensures); room = work.0; targets = targeted o w lent ok }
 
-pub count-await-rows-requires : goal.count-await-rows-requires
-count-await-rows-requires g c =
+pub count_await_rows-requires : goal.count_await_rows-requires
+count_await_rows-requires g c =
     let w = g.S.ModuleSource.meaning c.args.source.now in
     let o = c.args.self.now.options in
     let lent : Lent = record { marks = length c.args.marks.now; work = Some (length c.args.arrows.now, c.min-shortest.result) } in
-    let ok = sym c.in-ok-check-source.ensures in
+    let ok = sym c.in_ok-check_source.ensures in
     let work = worked o w lent ok (length c.args.arrows.now) c.min-shortest.result refl in
     record {
       records = few o w lent ok;
-      facts = omega (arith, work.1, c.min-shortest.ensures, c.find-awaiting.auto.facts);
-      waits = c.find-awaiting.ensures;
+      facts = omega (arith, work.1, c.min-shortest.ensures, c.find_awaiting.auto.facts);
+      waits = c.find_awaiting.ensures;
       targets = targeted o w lent ok;
     }
 
-pub write-await-rows-once-count-requires : goal.write-await-rows-once-count-requires
-write-await-rows-once-count-requires g c =
+pub write_await_rows_once-count-requires : goal.write_await_rows_once-count-requires
+write_await_rows_once-count-requires g c =
     let w = g.S.ModuleSource.meaning c.args.source.now in
     let o = c.args.self.now.options in
     let lent : Lent = record { marks = length c.args.marks.now; work = Some (length c.args.arrows.now, c.min-shortest.result) } in
-    let ok = sym c.in-ok-check-source.ensures in
+    let ok = sym c.in_ok-check_source.ensures in
     let work = worked o w lent ok (length c.args.arrows.now) c.min-shortest.result refl in
     record {
       small = small o w lent ok;
       records = few o w lent ok;
-      facts = omega (arith, work.1, c.min-shortest.ensures, c.find-awaiting.auto.facts);
-      waits = c.find-awaiting.ensures;
+      facts = omega (arith, work.1, c.min-shortest.ensures, c.find_awaiting.auto.facts);
+      waits = c.find_awaiting.ensures;
       ends = omega (arith, work.1, c.min-shortest.ensures);
-      arrows = omega (arith, work.0, c.find-awaiting.auto.arrows);
+      arrows = omega (arith, work.0, c.find_awaiting.auto.arrows);
       entered = omega (arith, work.1, c.min-shortest.ensures);
       found = omega (arith, work.1, c.min-shortest.ensures);
       targets = targeted o w lent ok;
-      room = omega (arith, c.if-list-count-await-rows.false, c.count-await-rows.ensures.count);
+      room = omega (arith, c.if-list-count_await_rows.false, c.count_await_rows.ensures.count);
     }
 
 pub returns : goal.returns
 returns g c =
     let w = g.S.ModuleSource.meaning c.args.source.now in
     let link = c.args.self.now in
-    let e = c.in-ok-stage.ensures in
-    let n = c.write-await-rows-once-count.result in
+    let e = c.in_ok-stage.ensures in
+    let n = c.write_await_rows_once-count.result in
     let room = length c.args.list.now in
-    let rows = c.write-await-rows-once-count.ensures in
+    let rows = c.write_await_rows_once-count.ensures in
     let counts : RowCount w n = (rows.waits, rows.when, rows.count) in
-    let only = c.count-await-rows.ensures.only in
+    let only = c.count_await_rows.ensures.only in
     let lent : ℕ → Lent = λ other. record { marks = length c.args.marks.now; work = Some (length c.args.arrows.now, other) } in
-    let fits : n ≤ room = omega (arith, only n counts, c.if-list-count-await-rows.false) in
+    let fits : n ≤ room = omega (arith, only n counts, c.if-list-count_await_rows.false) in
     let shortest : c.min-shortest.result ≡ min (min (length c.args.facts.now) (length c.args.entered.now)) (min (length c.args.ends.now) (length c.args.found.now)) = cc in
     let verdict =
     ap (λ (x : ℕ). call_verdict Await link.stage link.options w (lent x) (Ok tt)) (sym shortest)
-    ∙ own_decides Await link.stage c.in-ok-stage.stage e link.options w (lent c.min-shortest.result) (Ok tt) (sym c.in-ok-check-source.ensures) in
+    ∙ own_decides Await link.stage c.in_ok-stage.stage e link.options w (lent c.min-shortest.result) (Ok tt) (sym c.in_ok-check_source.ensures) in
     record {
       answer = subst (λ (v : Verdict). AwaitAnswer v w room (Ok n)) (sym verdict) (record {
         rows = n;
@@ -79,8 +79,8 @@ returns g c =
         only = λ other o. only other o ∙ sym (only n counts);
         is = sym (ap (λ (v : Verdict). counted v n) (passes _ (link_fault ResultsTooShort 0 0) (le-ltb room n fits)));
       });
-      stage = moves_on Await link.stage c.in-ok-stage.stage e;
+      stage = moves_on Await link.stage c.in_ok-stage.stage e;
       options = refl;
-      marks = c.mark-awaiting.ensures link.options;
+      marks = c.mark_awaiting.ensures link.options;
       list = rows;
     }

@@ -6,12 +6,12 @@ use Rattle.link.specs.Calls.{call_verdict}
 use Rattle.link.proofs.Accepts.{own_decides, moves_on}
 use Rattle.link.proofs.calls.Link.star.Goals as goal
 
-pub determine-dynamic-exports-requires : goal.determine-dynamic-exports-requires
-determine-dynamic-exports-requires g c =
+pub determine_dynamic_exports-requires : goal.determine_dynamic_exports-requires
+determine_dynamic_exports-requires g c =
     let w = g.S.ModuleSource.meaning c.args.source.now in
     let o = c.args.self.now.options in
     let lent : Lent = record { marks = length c.args.marks.now; work = Some (length c.args.arrows.now, c.min.result) } in
-    let ok = sym c.in-ok-check-source.ensures in
+    let ok = sym c.in_ok-check_source.ensures in
     let work = worked o w lent ok (length c.args.arrows.now) c.min.result refl in
     record {
       small = small o w lent ok;
@@ -26,11 +26,11 @@ pub returns : goal.returns
 returns g c =
     let w = g.S.ModuleSource.meaning c.args.source.now in
     let link = c.args.self.now in
-    let e = c.in-ok-stage.ensures in
+    let e = c.in_ok-stage.ensures in
     let lent : ℕ → Lent = λ other. record { marks = length c.args.marks.now; work = Some (length c.args.arrows.now, other) } in
     record {
-      answer = sym (ap (λ (n : ℕ). call_verdict Star link.stage link.options w (lent n) (Ok tt)) (sym c.min.ensures) ∙ own_decides Star link.stage c.in-ok-stage.stage e link.options w (lent c.min.result) (Ok tt) (sym c.in-ok-check-source.ensures));
-      stage = moves_on Star link.stage c.in-ok-stage.stage e;
+      answer = sym (ap (λ (n : ℕ). call_verdict Star link.stage link.options w (lent n) (Ok tt)) (sym c.min.ensures) ∙ own_decides Star link.stage c.in_ok-stage.stage e link.options w (lent c.min.result) (Ok tt) (sym c.in_ok-check_source.ensures));
+      stage = moves_on Star link.stage c.in_ok-stage.stage e;
       options = refl;
-      marks = c.determine-dynamic-exports.ensures link.options;
+      marks = c.determine_dynamic_exports.ensures link.options;
     }

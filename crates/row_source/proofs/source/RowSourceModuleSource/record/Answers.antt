@@ -7,13 +7,13 @@ use Rattle.row_source.proofs.source.RowSourceModuleSource.record.Goals as goal
 pub returns-then-m-self : goal.returns-then-m-self
 returns-then-m-self c =
     let s = c.args.self.now in
-    c.no-record.ensures
+    c.no_record.ensures
     ∙ sym (ap (λ (x : Scanned). get_or x.records c.args.k past_records) (scanned_past s.modules.now s.records.now s.runtime c.args.m c.if-m-self.true))
 
 pub returns-then-k-row : goal.returns-then-k-row
 returns-then-k-row c =
     let s = c.args.self.now in
-    c.no-record-then-k-row.ensures
+    c.no_record-then-k-row.ensures
     ∙ sym (record_past s.modules.now s.records.now s.accepted s.runtime c.args.m c.if-m-self.false c.args.k c.if-k-row.true)
 
 pub bounds-self-row : goal.bounds-self-row
