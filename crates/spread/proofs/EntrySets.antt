@@ -13,14 +13,14 @@ use Rattle.spread.specs.Spread.{Spread, Made, nothing, one, both}
 low_or : (x y : ℕ) → bit_or x y % 2 ≡ max (x % 2) (y % 2)
 low_or x y = omega (arith, or_step x y)
 
-bit_or : (r a b : ℕ) → bit_or a b / 2 ^ r % 2 ≡ max (a / 2 ^ r % 2) (b / 2 ^ r % 2)
-bit_or r a b = ap (λ (x : ℕ). x % 2) (or_shr a b r) ∙ low_or (a / 2 ^ r) (b / 2 ^ r)
+bit_at_or : (r a b : ℕ) → bit_or a b / 2 ^ r % 2 ≡ max (a / 2 ^ r % 2) (b / 2 ^ r % 2)
+bit_at_or r a b = ap (λ (x : ℕ). x % 2) (or_shr a b r) ∙ low_or (a / 2 ^ r) (b / 2 ^ r)
 
 pub union_holds : (r : ℕ) (x y : EntrySet) → Holds (union x y) r → Holds x r ⊎ Holds y r
-union_holds r x y e = elim (cases_eq (x.0 / 2 ^ r % 2) 1) [ inl h ↦ inl h | inr n ↦ inr (omega (arith, bit_or r x.0 y.0)) ]
+union_holds r x y e = elim (cases_eq (x.0 / 2 ^ r % 2) 1) [ inl h ↦ inl h | inr n ↦ inr (omega (arith, bit_at_or r x.0 y.0)) ]
 
 pub holds_union : (r : ℕ) (x y : EntrySet) → Holds y r → Holds (union x y) r
-holds_union r x y e = omega (arith, bit_or r x.0 y.0)
+holds_union r x y e = omega (arith, bit_at_or r x.0 y.0)
 
 pub none_holds : (r : ℕ) → Holds no_entry r → ⊥
 none_holds r e = omega (arith, zero-div (2 ^ r))

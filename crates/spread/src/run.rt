@@ -35,7 +35,7 @@ fn check_arrows(places: usize, arrows: &[Arrow]) -> Result<(), Fault>
 // Joins the fact at the arrow's start into the one at its end, and says whether that changed.
 fn carry<F: Fact>(facts: &mut [F], arrow: Arrow) -> bool
     requires { Inside (length facts.old) arrow }
-    ensures writes { facts.new ≡ carried zero join facts.old arrow }
+    ensures writes { facts.new ≡ carried F.zero F.join facts.old arrow }
     ensures still { result ≡ false → facts.new ≡ facts.old }
 {
     let to = arrow.to as usize;
@@ -48,7 +48,7 @@ fn carry<F: Fact>(facts: &mut [F], arrow: Arrow) -> bool
 // Takes each arrow once, first to last, and says whether a fact changed.
 fn sweep_forward<F: Fact>(facts: &mut [F], arrows: &[Arrow]) -> bool
     requires { AllInside (length facts.old) arrows.now }
-    ensures { Swept zero join arrows.now Each facts.old facts.new result }
+    ensures { Swept F.zero F.join arrows.now Each facts.old facts.new result }
 {
     let mut changed = false;
     for arrow in arrows {
@@ -61,7 +61,7 @@ fn sweep_forward<F: Fact>(facts: &mut [F], arrows: &[Arrow]) -> bool
 // Takes each arrow once, last to first, and says whether a fact changed.
 fn sweep_backward<F: Fact>(facts: &mut [F], arrows: &[Arrow]) -> bool
     requires { AllInside (length facts.old) arrows.now }
-    ensures { Swept zero join arrows.now Each facts.old facts.new result }
+    ensures { Swept F.zero F.join arrows.now Each facts.old facts.new result }
 {
     let mut changed = false;
     for row in (0..arrows.len()).rev() {
@@ -74,7 +74,7 @@ fn sweep_backward<F: Fact>(facts: &mut [F], arrows: &[Arrow]) -> bool
 // One sweep, in either direction.
 fn sweep<F: Fact>(facts: &mut [F], arrows: &[Arrow], backward: bool) -> bool
     requires { AllInside (length facts.old) arrows.now }
-    ensures { Swept zero join arrows.now Each facts.old facts.new result }
+    ensures { Swept F.zero F.join arrows.now Each facts.old facts.new result }
 {
     if backward {
         sweep_backward(facts, arrows)
@@ -87,7 +87,7 @@ fn sweep<F: Fact>(facts: &mut [F], arrows: &[Arrow], backward: bool) -> bool
 // passes each place once is longer.
 fn settle<F: Fact>(facts: &mut [F], arrows: &[Arrow])
     requires { AllInside (length facts.old) arrows.now }
-    ensures { Spread zero join arrows.now facts.old facts.new }
+    ensures { Spread F.zero F.join arrows.now facts.old facts.new }
 {
     for round in 0..facts.len() {
         if !sweep(facts, arrows, round % 2 == 1) {
@@ -101,8 +101,8 @@ fn settle<F: Fact>(facts: &mut [F], arrows: &[Arrow])
 /// them as they were.
 pub fn spread<F: Fact>(facts: &mut [F], arrows: &[Arrow]) -> Result<(), Fault>
     ensures answer { result ≡ arrow_verdict (length facts.old) arrows.now }
-    ensures leaves { Leaves zero join arrows.now facts.old facts.new result }
-    ensures laws { Laws zero join }
+    ensures leaves { Leaves F.zero F.join arrows.now facts.old facts.new result }
+    ensures laws { Laws F.zero F.join }
 {
     check_arrows(facts.len(), arrows)?;
     settle(facts, arrows);

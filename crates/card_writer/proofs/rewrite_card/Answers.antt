@@ -9,7 +9,7 @@ use Rattle.card_writer.proofs.rewrite_card.Goals as goal
 
 pub returns-in_err-check_card : goal.returns-in_err-check_card
 returns-in_err-check_card c =
-    let p = err_from_is_err_and c.from-residual.result c.from-residual.ensures.1 in
+    let p = err_from_is_err_and c.from_residual.result c.from_residual.ensures.1 in
     let size = length c.args.image.now in
     let room = length c.args.out.now in
     record {

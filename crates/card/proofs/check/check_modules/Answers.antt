@@ -7,7 +7,7 @@ use Rattle.card.proofs.check.check_modules.Goals as goal
 
 pub returns-in_err-next : goal.returns-in_err-next
 returns-in_err-next c =
-    let p = err_from_is_err_and c.from-residual.result c.from-residual.ensures.1 in
+    let p = err_from_is_err_and c.from_residual.result c.from_residual.ensures.1 in
     let at = 16 + 24 * c.loop-m.m in
     rw (p.1, p.2) (modules_step c.args.image.now c.loop-m.m at (at + 24 - at) c.loop-m.next (Err c.in_err-next.field-0.0) (omega arith) refl (omega arith) c.in_err-next.ensures ∙ c.loop-m.invariant)
 

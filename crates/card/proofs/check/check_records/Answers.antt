@@ -7,7 +7,7 @@ use Rattle.card.proofs.check.check_records.Goals as goal
 
 pub returns-in_err-check_record : goal.returns-in_err-check_record
 returns-in_err-check_record c =
-    let p = err_from_is_err_and c.from-residual.result c.from-residual.ensures.1 in
+    let p = err_from_is_err_and c.from_residual.result c.from_residual.ensures.1 in
     let at = (16 + 24 * c.u32_at.result) + 18 * c.loop-r.r in
     rw (p.1, p.2) (records_step c.args.image.now c.loop-r.r at (at + 18 - at) (Err c.in_err-check_record.field-0.0) (omega arith) (omega arith) (omega arith) c.in_err-check_record.ensures ∙ c.loop-r.invariant)
 

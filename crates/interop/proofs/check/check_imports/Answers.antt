@@ -8,7 +8,7 @@ use Rattle.interop.proofs.check.check_imports.Goals as goal
 pub returns-in_err-check_module : goal.returns-in_err-check_module
 returns-in_err-check_module g c =
     let w = g.S.ModuleSource.meaning c.args.source.now in
-    let p = err_from_is_err_and c.from-residual.result c.from-residual.ensures.1 in
+    let p = err_from_is_err_and c.from_residual.result c.from_residual.ensures.1 in
     rw (p.1, p.2) (sym (c.loop-i.invariant ∙ each_refuses (importer_verdict w) c.args.imports.now c.loop-i.i zero_import c.loop-i-test.true _ (sym c.in_err-check_module.ensures)))
 
 pub loop-i-preserved : goal.loop-i-preserved

@@ -19,7 +19,7 @@ returns-in_err-check_records g c =
     let w = g.S.ModuleSource.meaning c.args.source.now in
     let o = c.args.options in
     let m = c.loop-m.m in
-    let p = err_from_is_err_and c.from-residual.result c.from-residual.ensures.1 in
+    let p = err_from_is_err_and c.from_residual.result c.from_residual.ensures.1 in
     let lt : m < count_of w = omega (arith, c.module_count-m-end.ensures) in
     p.1 ∙ ap Err p.2
     ∙ sym (c.loop-m.invariant ∙ each_refuses (module_verdict o w) w.modules m past_modules lt _ (ap (scanned_verdict o w m (scanned_at w m)) (sym c.in-Normal.ensures) ∙ sym c.in_err-check_records.ensures))

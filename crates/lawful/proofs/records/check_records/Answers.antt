@@ -12,7 +12,7 @@ returns-in_err-check_record g c =
     let m = c.args.m in
     let k = c.loop-k.k in
     let verdict = record_verdict c.args.options w c.args.importer m in
-    let p = err_from_is_err_and c.from-residual.result c.from-residual.ensures.1 in
+    let p = err_from_is_err_and c.from_residual.result c.from_residual.ensures.1 in
     let lt : k < records_in w m = omega (arith, c.record_count-k-end.ensures) in
     p.1 ∙ ap Err p.2
     ∙ sym (c.loop-k.invariant ∙ each_refuses verdict (records_of w m) k past_records lt _ (ap (λ (r : ImportRecord). verdict k r) (sym c.record.ensures) ∙ sym c.in_err-check_record.ensures))

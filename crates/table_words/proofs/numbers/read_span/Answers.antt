@@ -9,13 +9,13 @@ use Rattle.table_words.proofs.numbers.read_span.Goals as goal
 pub returns-in_err-start : goal.returns-in_err-start
 returns-in_err-start c =
     let text = c.args.word.now in
-    subst (λ (o : Option Span). Spanned text o) (sym c.from-residual.ensures)
+    subst (λ (o : Option Span). Spanned text o) (sym c.from_residual.ensures)
     (λ start end m n e s t. MatchOption-at_none _ _ c.in_err-start.was (split_span text c.split_once.result c.split_once.ensures.cases start end m e s))
 
 pub returns-in_err-end : goal.returns-in_err-end
 returns-in_err-end c =
     let text = c.args.word.now in
-    subst (λ (o : Option Span). Spanned text o) (sym c.from-residual-in_err-end.ensures)
+    subst (λ (o : Option Span). Spanned text o) (sym c.from_residual-in_err-end.ensures)
     (λ start end m n e s t.
     let parts = MatchOption-at_some _ _ _ c.in_ok-start.was (split_span text c.split_once.result c.split_once.ensures.cases start end m e s) in
     MatchOption-at_none _ _ c.in_err-end.was (strip_prefix_char 46 c.in_ok-start.rest.now c.strip_prefix.result c.strip_prefix.ensures.cases (lit< tt)) end parts.1)
@@ -23,7 +23,7 @@ returns-in_err-end c =
 pub returns-in_err-read_number : goal.returns-in_err-read_number
 returns-in_err-read_number c =
     let text = c.args.word.now in
-    subst (λ (o : Option Span). Spanned text o) (sym c.from-residual-in_err-read_number.ensures)
+    subst (λ (o : Option Span). Spanned text o) (sym c.from_residual-in_err-read_number.ensures)
     (λ start end m n e s t.
     let parts = MatchOption-at_some _ _ _ c.in_ok-start.was (split_span text c.split_once.result c.split_once.ensures.cases start end m e s) in
     not_both start m (subst (λ (x : List ℕ). Numbered x None) parts.0 c.in_err-read_number.ensures) s)
@@ -31,7 +31,7 @@ returns-in_err-read_number c =
 pub returns-in_err-read_number-2 : goal.returns-in_err-read_number-2
 returns-in_err-read_number-2 c =
     let text = c.args.word.now in
-    subst (λ (o : Option Span). Spanned text o) (sym c.from-residual-in_err-read_number-2.ensures)
+    subst (λ (o : Option Span). Spanned text o) (sym c.from_residual-in_err-read_number-2.ensures)
     (λ start end m n e s t.
     let parts = MatchOption-at_some _ _ _ c.in_ok-start.was (split_span text c.split_once.result c.split_once.ensures.cases start end m e s) in
     let rest = MatchOption-at_some _ _ _ c.in_ok-end.was (strip_prefix_char 46 c.in_ok-start.rest.now c.strip_prefix.result c.strip_prefix.ensures.cases (lit< tt)) in

@@ -7,7 +7,7 @@ use Rattle.card.proofs.image.CardSource.open.Goals as goal
 
 pub invariant_of-result-2 : goal.invariant_of-result-2
 unfolding u16_le u32_le
-invariant_of-result-2 c = (refl, (refl, tt))
+invariant_of-result-2 c = record { accepted = refl; whole = refl }
 
 pub returns : goal.returns
 unfolding u16_le u32_le
