@@ -27,7 +27,7 @@ fn is_open_end(module: Module, kind: ExportsKind) -> bool
 }
 
 fn has_star<S: ModuleSource>(source: &S, m: usize) -> bool
-    ensures { (result ≡ true) ↔ HasStar (meaning source.now) m }
+    ensures { (result ≡ true) ↔ HasStar (S.meaning source.now) m }
 {
     let Module::Normal(_) = source.module(m) else {
         return false;
@@ -42,9 +42,9 @@ fn has_star<S: ModuleSource>(source: &S, m: usize) -> bool
 
 // Yes at each module that a star's names may end in.
 fn open_ends<S: ModuleSource>(source: &S, rows: &[MarkRow], facts: &mut [YesNo])
-    requires rows { count_of (meaning source.now) ≤ length rows.now }
-    requires facts { count_of (meaning source.now) ≤ length facts.old }
-    ensures { Filled (count_of (meaning source.now)) (OpenAt (meaning source.now) rows.now) facts.new }
+    requires rows { count_of (S.meaning source.now) ≤ length rows.now }
+    requires facts { count_of (S.meaning source.now) ≤ length facts.old }
+    ensures { Filled (count_of (S.meaning source.now)) (OpenAt (S.meaning source.now) rows.now) facts.new }
 {
     for m in 0..source.module_count() {
         let kind = Mark::read(rows[m]).kind();
@@ -59,10 +59,10 @@ fn write_dynamic<S: ModuleSource>(
     facts: &[YesNo],
     starred: &[YesNo],
 )
-    requires rows { count_of (meaning source.now) ≤ length rows.old }
-    requires facts { count_of (meaning source.now) ≤ length facts.now }
-    requires starred { count_of (meaning source.now) ≤ length starred.now }
-    ensures { Written (count_of (meaning source.now)) (StarredRow (meaning source.now) facts.now starred.now) rows.old rows.new }
+    requires rows { count_of (S.meaning source.now) ≤ length rows.old }
+    requires facts { count_of (S.meaning source.now) ≤ length facts.now }
+    requires starred { count_of (S.meaning source.now) ≤ length starred.now }
+    ensures { Written (count_of (S.meaning source.now)) (StarredRow (S.meaning source.now) facts.now starred.now) rows.old rows.new }
 {
     for m in 0..source.module_count() {
         let row = rows[m];
@@ -80,13 +80,13 @@ pub fn determine_dynamic_exports<S: ModuleSource>(
     starred: &mut [YesNo],
     arrows: &mut [Arrow],
 )
-    requires small { count_of (meaning source.now) ≤ 4096 }
-    requires rows { count_of (meaning source.now) ≤ length rows.old }
-    requires facts { count_of (meaning source.now) ≤ length facts.old }
-    requires starred { count_of (meaning source.now) ≤ length starred.old }
-    requires room { record_total (meaning source.now) ≤ length arrows.old }
-    requires targets { Targets (meaning source.now) }
-    ensures { (o : LinkOptions) → StarDid (meaning source.now) o rows.old rows.new }
+    requires small { count_of (S.meaning source.now) ≤ 4096 }
+    requires rows { count_of (S.meaning source.now) ≤ length rows.old }
+    requires facts { count_of (S.meaning source.now) ≤ length facts.old }
+    requires starred { count_of (S.meaning source.now) ≤ length starred.old }
+    requires room { record_total (S.meaning source.now) ≤ length arrows.old }
+    requires targets { Targets (S.meaning source.now) }
+    ensures { (o : LinkOptions) → StarDid (S.meaning source.now) o rows.old rows.new }
 {
     open_ends(source, rows, facts);
     spread_along(source, Way::Stars, facts, arrows);

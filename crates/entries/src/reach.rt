@@ -23,7 +23,7 @@ fn is_entry(module: Module) -> bool
 
 /// How many entry modules there are.
 pub fn count_entries<S: ModuleSource>(source: &S) -> usize
-    ensures { result ≡ rank (meaning source.now) (count_of (meaning source.now)) }
+    ensures { result ≡ rank (S.meaning source.now) (count_of (S.meaning source.now)) }
 {
     let mut n: usize = 0;
     for m in 0..source.module_count() {
@@ -36,9 +36,9 @@ pub fn count_entries<S: ModuleSource>(source: &S) -> usize
 
 // Each entry module starts with its own rank, in module order; every other module with none.
 fn entry_starts<S: ModuleSource>(source: &S, facts: &mut [EntrySet])
-    requires small { count_of (meaning source.now) ≤ 4096 }
-    requires facts { count_of (meaning source.now) ≤ length facts.old }
-    ensures { Ranked (count_of (meaning source.now)) (meaning source.now) facts.new }
+    requires small { count_of (S.meaning source.now) ≤ 4096 }
+    requires facts { count_of (S.meaning source.now) ≤ length facts.old }
+    ensures { Ranked (count_of (S.meaning source.now)) (S.meaning source.now) facts.new }
 {
     let mut next: u32 = 0;
     for m in 0..source.module_count() {
@@ -52,9 +52,9 @@ fn entry_starts<S: ModuleSource>(source: &S, facts: &mut [EntrySet])
 }
 
 fn write_entries<S: ModuleSource>(source: &S, rows: &mut [MarkRow], facts: &[EntrySet])
-    requires rows { count_of (meaning source.now) ≤ length rows.old }
-    requires facts { count_of (meaning source.now) ≤ length facts.now }
-    ensures { Written (count_of (meaning source.now)) (EnteredRow facts.now) rows.old rows.new }
+    requires rows { count_of (S.meaning source.now) ≤ length rows.old }
+    requires facts { count_of (S.meaning source.now) ≤ length facts.now }
+    ensures { Written (count_of (S.meaning source.now)) (EnteredRow facts.now) rows.old rows.new }
 {
     for m in 0..source.module_count() {
         rows[m] = Mark::read(rows[m]).with_entries(facts[m].0).row();
@@ -68,13 +68,13 @@ pub fn determine_entries<S: ModuleSource>(
     facts: &mut [EntrySet],
     arrows: &mut [Arrow],
 )
-    requires small { count_of (meaning source.now) ≤ 4096 }
-    requires few { rank (meaning source.now) (count_of (meaning source.now)) ≤ 64 }
-    requires rows { count_of (meaning source.now) ≤ length rows.old }
-    requires facts { count_of (meaning source.now) ≤ length facts.old }
-    requires room { record_total (meaning source.now) ≤ length arrows.old }
-    requires targets { Targets (meaning source.now) }
-    ensures { (o : LinkOptions) → EntriesDid (meaning source.now) o rows.old rows.new }
+    requires small { count_of (S.meaning source.now) ≤ 4096 }
+    requires few { rank (S.meaning source.now) (count_of (S.meaning source.now)) ≤ 64 }
+    requires rows { count_of (S.meaning source.now) ≤ length rows.old }
+    requires facts { count_of (S.meaning source.now) ≤ length facts.old }
+    requires room { record_total (S.meaning source.now) ≤ length arrows.old }
+    requires targets { Targets (S.meaning source.now) }
+    ensures { (o : LinkOptions) → EntriesDid (S.meaning source.now) o rows.old rows.new }
 {
     entry_starts(source, facts);
     spread_along(source, Way::Entries, facts, arrows);

@@ -81,8 +81,8 @@ fn mark_importer(options: LinkOptions, importer: NormalModule, mark: Mark) -> Ma
 
 // Each module's row is written as it reads, so that it keeps the rule on wrappers.
 fn read_rows<S: ModuleSource>(source: &S, rows: &mut [MarkRow])
-    requires { count_of (meaning source.now) ≤ length rows.old }
-    ensures { ReadUpTo (count_of (meaning source.now)) rows.old rows.new }
+    requires { count_of (S.meaning source.now) ≤ length rows.old }
+    ensures { ReadUpTo (count_of (S.meaning source.now)) rows.old rows.new }
 {
     for m in 0..source.module_count() {
         let mark = Mark::read(rows[m]);
@@ -97,8 +97,8 @@ pub fn determine_exports_kinds<S: ModuleSource>(
     options: LinkOptions,
     rows: &mut [MarkRow],
 )
-    requires { count_of (meaning source.now) ≤ length rows.old }
-    ensures { KindsDid (meaning source.now) options rows.old rows.new }
+    requires { count_of (S.meaning source.now) ≤ length rows.old }
+    ensures { KindsDid (S.meaning source.now) options rows.old rows.new }
 {
     read_rows(source, rows);
     for m in 0..source.module_count() {

@@ -7,7 +7,7 @@ use faults::{Fault, Layer, Place, Refusal};
 use source::ModuleSource;
 
 fn check_module<S: ModuleSource>(source: &S, row: usize, m: u32) -> Result<(), Fault>
-    ensures { result ≡ module_verdict (meaning source.now) row m }
+    ensures { result ≡ module_verdict (S.meaning source.now) row m }
 {
     if m as usize >= source.module_count() {
         return Err(Fault {
@@ -20,7 +20,7 @@ fn check_module<S: ModuleSource>(source: &S, row: usize, m: u32) -> Result<(), F
 }
 
 pub fn check_observers<S: ModuleSource>(source: &S, observers: &[ObserverRow]) -> Result<(), Fault>
-    ensures { result ≡ observers_verdict (meaning source.now) observers.now }
+    ensures { result ≡ observers_verdict (S.meaning source.now) observers.now }
 {
     for (i, row) in observers.iter().enumerate() {
         check_module(source, i, row.observer)?;
@@ -29,7 +29,7 @@ pub fn check_observers<S: ModuleSource>(source: &S, observers: &[ObserverRow]) -
 }
 
 fn check_imports<S: ModuleSource>(source: &S, imports: &[ImportRow]) -> Result<(), Fault>
-    ensures { result ≡ imports_verdict (meaning source.now) imports.now }
+    ensures { result ≡ imports_verdict (S.meaning source.now) imports.now }
 {
     for (i, row) in imports.iter().enumerate() {
         check_module(source, i, row.importer)?;
@@ -43,7 +43,7 @@ pub fn check_rows<S: ModuleSource>(
     observers: &[ObserverRow],
     imports: &[ImportRow],
 ) -> Result<(), Fault>
-    ensures { result ≡ rows_verdict (meaning source.now) observers.now imports.now }
+    ensures { result ≡ rows_verdict (S.meaning source.now) observers.now imports.now }
 {
     check_observers(source, observers)?;
     check_imports(source, imports)

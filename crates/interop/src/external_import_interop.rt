@@ -28,7 +28,7 @@ fn counts(chunks: ChunkAssignments<'_>, namespace: u32, chunk: u32, row: &Observ
 }
 
 fn is_node_esm<S: ModuleSource>(source: &S, m: u32) -> bool
-    ensures { result ≡ is_node_esm (module_at (meaning source.now) m) }
+    ensures { result ≡ is_node_esm (module_at (S.meaning source.now) m) }
 {
     match source.module(m as usize) {
         Module::Normal(normal) => normal.node_esm,
@@ -62,7 +62,7 @@ fn observed_use(
 }
 
 fn written_use<S: ModuleSource>(source: &S, row: &ImportRow) -> Option<InteropUse>
-    ensures { result ≡ written (meaning source.now) row.now }
+    ensures { result ≡ written (S.meaning source.now) row.now }
 {
     if !needs_interop(row.specifier) {
         return None;
@@ -81,13 +81,13 @@ fn is_node_observer<S: ModuleSource>(
     chunk: u32,
     row: &ObserverRow,
 ) -> bool
-    ensures { result ≡ node_observer (meaning source.now) chunks.entry namespace chunk row.now }
+    ensures { result ≡ node_observer (S.meaning source.now) chunks.entry namespace chunk row.now }
 {
     counts(chunks, namespace, chunk, row) && is_node_esm(source, row.observer)
 }
 
 fn is_node_importer<S: ModuleSource>(source: &S, row: &ImportRow) -> bool
-    ensures { result ≡ node_importer (meaning source.now) row.now }
+    ensures { result ≡ node_importer (S.meaning source.now) row.now }
 {
     needs_interop(row.specifier) && is_node_esm(source, row.importer)
 }
@@ -108,7 +108,7 @@ fn observed_uses(
 }
 
 fn written_uses<S: ModuleSource>(source: &S, imports: &[ImportRow]) -> Option<InteropUse>
-    ensures { result ≡ all_uses (written (meaning source.now)) imports.now }
+    ensures { result ≡ all_uses (written (S.meaning source.now)) imports.now }
 {
     let mut uses: Option<InteropUse> = None;
     for row in imports {
@@ -124,7 +124,7 @@ fn has_node_observer<S: ModuleSource>(
     namespace: u32,
     chunk: u32,
 ) -> bool
-    ensures { result ≡ any (node_observer (meaning source.now) chunks.entry namespace chunk) observers.now }
+    ensures { result ≡ any (node_observer (S.meaning source.now) chunks.entry namespace chunk) observers.now }
 {
     for row in observers {
         if is_node_observer(source, chunks, namespace, chunk, row) {
@@ -135,7 +135,7 @@ fn has_node_observer<S: ModuleSource>(
 }
 
 fn has_node_importer<S: ModuleSource>(source: &S, imports: &[ImportRow]) -> bool
-    ensures { result ≡ any (node_importer (meaning source.now)) imports.now }
+    ensures { result ≡ any (node_importer (S.meaning source.now)) imports.now }
 {
     for row in imports {
         if is_node_importer(source, row) {
@@ -153,7 +153,7 @@ fn has_node_reader<S: ModuleSource>(
     namespace: u32,
     chunk: u32,
 ) -> bool
-    ensures { result ≡ reader_of (meaning source.now) chunks.entry namespace chunk observers.now imports.now }
+    ensures { result ≡ reader_of (S.meaning source.now) chunks.entry namespace chunk observers.now imports.now }
 {
     has_node_observer(source, chunks, observers, namespace, chunk)
         || has_node_importer(source, imports)
@@ -167,9 +167,9 @@ pub fn recorded_use<S: ModuleSource>(
     namespace: u32,
     chunk: u32,
 ) -> Result<Option<InteropUse>, Fault>
-    ensures answer { result ≡ recorded_use_answer (meaning source.now) chunks.entry namespace chunk observers.now }
+    ensures answer { result ≡ recorded_use_answer (S.meaning source.now) chunks.entry namespace chunk observers.now }
     ensures tells { Together (Observed chunks.entry namespace chunk observers.now) (recorded_use_of chunks.entry namespace chunk observers.now) }
-    ensures rows { OfRows (recorded_use_answer (meaning source.now) chunks.entry namespace chunk) }
+    ensures rows { OfRows (recorded_use_answer (S.meaning source.now) chunks.entry namespace chunk) }
 {
     check_observers(source, observers)?;
     Ok(observed_uses(chunks, observers, namespace, chunk))
@@ -184,9 +184,9 @@ pub fn modes<S: ModuleSource>(
     namespace: u32,
     chunk: u32,
 ) -> Result<Option<InteropUse>, Fault>
-    ensures answer { result ≡ modes_answer (meaning source.now) chunks.entry namespace chunk observers.now imports.now }
-    ensures tells { Together (λ u. Observed chunks.entry namespace chunk observers.now u ⊎ Written (meaning source.now) imports.now u) (modes_of (meaning source.now) chunks.entry namespace chunk observers.now imports.now) }
-    ensures rows { OfBothRows (modes_answer (meaning source.now) chunks.entry namespace chunk) }
+    ensures answer { result ≡ modes_answer (S.meaning source.now) chunks.entry namespace chunk observers.now imports.now }
+    ensures tells { Together (λ u. Observed chunks.entry namespace chunk observers.now u ⊎ Written (S.meaning source.now) imports.now u) (modes_of (S.meaning source.now) chunks.entry namespace chunk observers.now imports.now) }
+    ensures rows { OfBothRows (modes_answer (S.meaning source.now) chunks.entry namespace chunk) }
 {
     check_rows(source, observers, imports)?;
     let recorded = observed_uses(chunks, observers, namespace, chunk);
@@ -203,9 +203,9 @@ pub fn reader<S: ModuleSource>(
     namespace: u32,
     chunk: u32,
 ) -> Result<bool, Fault>
-    ensures answer { result ≡ reader_answer (meaning source.now) chunks.entry namespace chunk observers.now imports.now }
-    ensures tells { (reader_of (meaning source.now) chunks.entry namespace chunk observers.now imports.now ≡ true) ↔ (NodeObserved (meaning source.now) chunks.entry namespace chunk observers.now ⊎ NodeWritten (meaning source.now) imports.now) }
-    ensures rows { OfBothRows (reader_answer (meaning source.now) chunks.entry namespace chunk) }
+    ensures answer { result ≡ reader_answer (S.meaning source.now) chunks.entry namespace chunk observers.now imports.now }
+    ensures tells { (reader_of (S.meaning source.now) chunks.entry namespace chunk observers.now imports.now ≡ true) ↔ (NodeObserved (S.meaning source.now) chunks.entry namespace chunk observers.now ⊎ NodeWritten (S.meaning source.now) imports.now) }
+    ensures rows { OfBothRows (reader_answer (S.meaning source.now) chunks.entry namespace chunk) }
 {
     check_rows(source, observers, imports)?;
     Ok(has_node_reader(source, chunks, observers, imports, namespace, chunk))

@@ -17,7 +17,7 @@ pub struct Lent {
 
 // How many records all the modules have, if they are within the limit.
 fn count_records<S: ModuleSource>(source: &S) -> Option<usize>
-    ensures { MatchOption result (32768 < record_total (meaning source.now)) (λ n. (n ≡ record_total (meaning source.now)) × (n ≤ 32768)) }
+    ensures { MatchOption result (32768 < record_total (S.meaning source.now)) (λ n. (n ≡ record_total (S.meaning source.now)) × (n ≤ 32768)) }
 {
     let mut total: usize = 0;
     for m in 0..source.module_count() {
@@ -58,7 +58,7 @@ pub fn check_source<S: ModuleSource>(
     options: LinkOptions,
     lent: Lent,
 ) -> Result<(), Fault>
-    ensures { result ≡ source_verdict options (meaning source.now) lent }
+    ensures { result ≡ source_verdict options (S.meaning source.now) lent }
 {
     let modules = source.module_count();
     if modules > MODULE_LIMIT {

@@ -20,7 +20,7 @@ pub fn link_fault(refusal: Refusal, at: usize, record: usize) -> Fault
 }
 
 fn is_past_end<S: ModuleSource>(source: &S, target: Option<u32>) -> bool
-    ensures { result ≡ past_end (meaning source.now) target }
+    ensures { result ≡ past_end (S.meaning source.now) target }
 {
     match target {
         Some(t) => t as usize >= source.module_count(),
@@ -38,7 +38,7 @@ fn is_style(kind: ImportKind) -> bool
 }
 
 fn is_style_of_normal<S: ModuleSource>(source: &S, record: ImportRecord) -> bool
-    ensures { result ≡ style_of_normal (meaning source.now) «record» }
+    ensures { result ≡ style_of_normal (S.meaning source.now) «record» }
 {
     let Some(t) = record.target else {
         return false;
@@ -74,7 +74,7 @@ fn is_runtime_required<S: ModuleSource>(
     options: LinkOptions,
     record: ImportRecord,
 ) -> bool
-    ensures { result ≡ runtime_required options (meaning source.now) «record» }
+    ensures { result ≡ runtime_required options (S.meaning source.now) «record» }
 {
     match record.target {
         Some(t) => (t == source.runtime()) & acts_as_require(options, record.kind),
@@ -91,7 +91,7 @@ fn check_record<S: ModuleSource>(
     k: usize,
     record: ImportRecord,
 ) -> Result<(), Fault>
-    ensures { result ≡ record_verdict options (meaning source.now) importer m k «record» }
+    ensures { result ≡ record_verdict options (S.meaning source.now) importer m k «record» }
 {
     if is_past_end(source, record.target) {
         return Err(link_fault(Refusal::TargetPastEnd, m, k));
@@ -114,7 +114,7 @@ fn check_records<S: ModuleSource>(
     importer: NormalModule,
     m: usize,
 ) -> Result<(), Fault>
-    ensures { result ≡ each (record_verdict options (meaning source.now) importer m) 0 (records_of (meaning source.now) m) }
+    ensures { result ≡ each (record_verdict options (S.meaning source.now) importer m) 0 (records_of (S.meaning source.now) m) }
 {
     for k in 0..source.record_count(m) {
         check_record(source, options, importer, m, k, source.record(m, k))?;
@@ -123,7 +123,7 @@ fn check_records<S: ModuleSource>(
 }
 
 pub fn check_all_records<S: ModuleSource>(source: &S, options: LinkOptions) -> Result<(), Fault>
-    ensures { result ≡ records_verdict options (meaning source.now) }
+    ensures { result ≡ records_verdict options (S.meaning source.now) }
 {
     for m in 0..source.module_count() {
         let Module::Normal(importer) = source.module(m) else {

@@ -72,10 +72,10 @@ impl Link {
         options: LinkOptions,
         marks: &mut [MarkRow],
     ) -> Result<(), Fault>
-        ensures answer { result ≡ call_verdict Begin self.old.stage options (meaning source.now) (record { marks = length marks.entry.now; work = None }) (Ok tt) }
+        ensures answer { result ≡ call_verdict Begin self.old.stage options (S.meaning source.now) (record { marks = length marks.old; work = None }) (Ok tt) }
         ensures stage { self.new.stage ≡ stage_left Begin self.old.stage result }
         ensures options { self.new.options ≡ options_left result options self.old.options }
-        ensures marks { Leaves (BeginDid (meaning source.now)) result marks.old marks.new }
+        ensures marks { Leaves (BeginDid (S.meaning source.now)) result marks.old marks.new }
     {
         let stage = next_stage(self.stage, Call::Begin)?;
         let lent = Lent {
@@ -91,10 +91,10 @@ impl Link {
 
     /// Settles the kinds: what the first counting record to each module makes of it.
     pub fn kinds<S: ModuleSource>(&mut self, source: &S, marks: &mut [MarkRow]) -> Result<(), Fault>
-        ensures answer { result ≡ call_verdict Kinds self.old.stage self.old.options (meaning source.now) (record { marks = length marks.entry.now; work = None }) (Ok tt) }
+        ensures answer { result ≡ call_verdict Kinds self.old.stage self.old.options (S.meaning source.now) (record { marks = length marks.old; work = None }) (Ok tt) }
         ensures stage { self.new.stage ≡ stage_left Kinds self.old.stage result }
         ensures options { self.new.options ≡ self.old.options }
-        ensures marks { Leaves (KindsDid (meaning source.now) self.old.options) result marks.old marks.new }
+        ensures marks { Leaves (KindsDid (S.meaning source.now) self.old.options) result marks.old marks.new }
     {
         let stage = next_stage(self.stage, Call::Kinds)?;
         let lent = Lent {
@@ -116,10 +116,10 @@ impl Link {
         starred: &mut [YesNo],
         arrows: &mut [Arrow],
     ) -> Result<(), Fault>
-        ensures answer { result ≡ call_verdict Star self.old.stage self.old.options (meaning source.now) (record { marks = length marks.entry.now; work = Some (length arrows.old, min (length facts.old) (length starred.old)) }) (Ok tt) }
+        ensures answer { result ≡ call_verdict Star self.old.stage self.old.options (S.meaning source.now) (record { marks = length marks.old; work = Some (length arrows.old, min (length facts.old) (length starred.old)) }) (Ok tt) }
         ensures stage { self.new.stage ≡ stage_left Star self.old.stage result }
         ensures options { self.new.options ≡ self.old.options }
-        ensures marks { Leaves (StarDid (meaning source.now) self.old.options) result marks.old marks.new }
+        ensures marks { Leaves (StarDid (S.meaning source.now) self.old.options) result marks.old marks.new }
     {
         let stage = next_stage(self.stage, Call::Star)?;
         let lent = Lent {
@@ -141,10 +141,10 @@ impl Link {
         flags: &mut [YesNo],
         arrows: &mut [Arrow],
     ) -> Result<(), Fault>
-        ensures answer { result ≡ call_verdict Wrap self.old.stage self.old.options (meaning source.now) (record { marks = length marks.entry.now; work = Some (length arrows.old, min (length facts.old) (length flags.old)) }) (Ok tt) }
+        ensures answer { result ≡ call_verdict Wrap self.old.stage self.old.options (S.meaning source.now) (record { marks = length marks.old; work = Some (length arrows.old, min (length facts.old) (length flags.old)) }) (Ok tt) }
         ensures stage { self.new.stage ≡ stage_left Wrap self.old.stage result }
         ensures options { self.new.options ≡ self.old.options }
-        ensures marks { Leaves (WrapDid (meaning source.now) self.old.options) result marks.old marks.new }
+        ensures marks { Leaves (WrapDid (S.meaning source.now) self.old.options) result marks.old marks.new }
     {
         let stage = next_stage(self.stage, Call::Wrap)?;
         let lent = Lent {
@@ -169,11 +169,11 @@ impl Link {
         arrows: &mut [Arrow],
         list: &mut [AwaitRow],
     ) -> Result<usize, Fault>
-        ensures answer { AwaitAnswer (call_verdict Await self.old.stage self.old.options (meaning source.now) (record { marks = length marks.entry.now; work = Some (length arrows.old, min (min (length facts.old) (length entered.old)) (min (length ends.old) (length found.old))) }) (Ok tt)) (meaning source.now) (length list.old) result }
+        ensures answer { AwaitAnswer (call_verdict Await self.old.stage self.old.options (S.meaning source.now) (record { marks = length marks.old; work = Some (length arrows.old, min (min (length facts.old) (length entered.old)) (min (length ends.old) (length found.old))) }) (Ok tt)) (S.meaning source.now) (length list.old) result }
         ensures stage { self.new.stage ≡ stage_left Await self.old.stage result }
         ensures options { self.new.options ≡ self.old.options }
-        ensures marks { Leaves (AwaitDid (meaning source.now) self.old.options) result marks.old marks.new }
-        ensures list { AwaitLeaves (meaning source.now) result list.old list.new }
+        ensures marks { Leaves (AwaitDid (S.meaning source.now) self.old.options) result marks.old marks.new }
+        ensures list { AwaitLeaves (S.meaning source.now) result list.old list.new }
     {
         let stage = next_stage(self.stage, Call::Await)?;
         let shortest = facts
@@ -203,10 +203,10 @@ impl Link {
         facts: &mut [EntrySet],
         arrows: &mut [Arrow],
     ) -> Result<(), Fault>
-        ensures answer { result ≡ call_verdict Entries self.old.stage self.old.options (meaning source.now) (record { marks = length marks.entry.now; work = Some (length arrows.old, length facts.old) }) (entries_verdict (meaning source.now)) }
+        ensures answer { result ≡ call_verdict Entries self.old.stage self.old.options (S.meaning source.now) (record { marks = length marks.old; work = Some (length arrows.old, length facts.old) }) (entries_verdict (S.meaning source.now)) }
         ensures stage { self.new.stage ≡ stage_left Entries self.old.stage result }
         ensures options { self.new.options ≡ self.old.options }
-        ensures marks { Leaves (EntriesDid (meaning source.now) self.old.options) result marks.old marks.new }
+        ensures marks { Leaves (EntriesDid (S.meaning source.now) self.old.options) result marks.old marks.new }
     {
         let stage = next_stage(self.stage, Call::Entries)?;
         let lent = Lent {
@@ -229,11 +229,11 @@ impl Link {
         marks: &mut [MarkRow],
         list: &mut [WrapperRow],
     ) -> Result<usize, Fault>
-        ensures answer { result ≡ finish_answer self.old.stage self.old.options (meaning source.now) marks.old (length list.old) }
+        ensures answer { result ≡ finish_answer self.old.stage self.old.options (S.meaning source.now) marks.old (length list.old) }
         ensures stage { self.new.stage ≡ stage_left Finish self.old.stage result }
         ensures options { self.new.options ≡ self.old.options }
-        ensures marks { Leaves (FinishDid (meaning source.now) self.old.options) result marks.old marks.new }
-        ensures list { ListLeaves (wrappers_of self.old.options (meaning source.now) marks.old) result list.old list.new }
+        ensures marks { Leaves (FinishDid (S.meaning source.now) self.old.options) result marks.old marks.new }
+        ensures list { ListLeaves (wrappers_of self.old.options (S.meaning source.now) marks.old) result list.old list.new }
     {
         let stage = next_stage(self.stage, Call::Finish)?;
         let lent = Lent {

@@ -139,7 +139,7 @@ fn run_calls<S: ModuleSource>(
     calls: &mut [Asked],
     wrappers: &mut [WrapperRow],
 ) -> Result<usize, Fault>
-    ensures { EndsSettled result (meaning source.now) options marks.new wrappers.new }
+    ensures { EndsSettled result (S.meaning source.now) options marks.new wrappers.new }
 {
     let mut link = Link::new();
     run_to_end(
@@ -167,7 +167,7 @@ pub fn run_list<S: ModuleSource>(
     passes: &[Pass],
 ) -> Result<ListRun, ListError>
     ensures small { IfOk result Small }
-    ensures settled { IfOk result (Settles (meaning source.now) options) }
+    ensures settled { IfOk result (Settles (S.meaning source.now) options) }
 {
     let modules = modules_of(source);
     let records = records_of(source);

@@ -39,7 +39,7 @@ fn ask<S: ModuleSource>(
     requires sets { length sets.old ≡ length facts.old }
     requires ends { length ends.old ≡ length facts.old }
     requires found { length found.old ≡ length facts.old }
-    ensures { Made (meaning source.now) pass (lent_to pass (length marks.old) (length arrows.old) (length facts.old)) (length list.old) result (record { link = link.entry.now; marks = marks.old; list = list.old }) (record { link = link.exit.now; marks = marks.new; list = list.new }) }
+    ensures { Made (S.meaning source.now) pass (lent_to pass (length marks.old) (length arrows.old) (length facts.old)) (length list.old) result (record { link = link.old; marks = marks.old; list = list.old }) (record { link = link.new; marks = marks.new; list = list.new }) }
 {
     match pass {
         Pass::Kinds => uncounted(link.kinds(source, marks)),
@@ -78,7 +78,7 @@ fn make<S: ModuleSource>(
     list: &mut [AwaitRow],
     asked: Asked,
 ) -> Result<usize, Fault>
-    ensures { MadeOf (meaning source.now) (length arrows.old) (shortest (length facts.old) (length flags.old) (length sets.old) (length ends.old) (length found.old)) asked result (record { link = link.entry.now; marks = marks.old; list = list.old }) (record { link = link.exit.now; marks = marks.new; list = list.new }) }
+    ensures { MadeOf (S.meaning source.now) (length arrows.old) (shortest (length facts.old) (length flags.old) (length sets.old) (length ends.old) (length found.old)) asked result (record { link = link.old; marks = marks.old; list = list.old }) (record { link = link.new; marks = marks.new; list = list.new }) }
 {
     let places = asked.places.min(shortest(facts, flags, sets, ends, found));
     let steps = asked.arrows.min(arrows.len());
@@ -114,9 +114,9 @@ pub fn run<S: ModuleSource>(
     list: &mut [AwaitRow],
     calls: &mut [Asked],
 ) -> Result<(), Fault>
-    ensures answer { result ≡ call_verdict Begin link.old.stage options (meaning source.now) (record { marks = length marks.entry.now; work = None }) (Ok tt) }
-    ensures calls { RunLeaves result (meaning source.now) options (length arrows.old) (shortest (length facts.old) (length flags.old) (length sets.old) (length ends.old) (length found.old)) calls.old calls.new (record { link = link.entry.now; marks = marks.old; list = list.old }) (record { link = link.exit.now; marks = marks.new; list = list.new }) }
-    ensures settles { EveryOrder result (meaning source.now) options calls.new marks.new }
+    ensures answer { result ≡ call_verdict Begin link.old.stage options (S.meaning source.now) (record { marks = length marks.old; work = None }) (Ok tt) }
+    ensures calls { RunLeaves result (S.meaning source.now) options (length arrows.old) (shortest (length facts.old) (length flags.old) (length sets.old) (length ends.old) (length found.old)) calls.old calls.new (record { link = link.old; marks = marks.old; list = list.old }) (record { link = link.new; marks = marks.new; list = list.new }) }
+    ensures settles { EveryOrder result (S.meaning source.now) options calls.new marks.new }
 {
     link.begin(source, options, marks)?;
     for i in 0..calls.len() {

@@ -30,8 +30,8 @@ pub fn run_to_end<S: ModuleSource>(
     calls: &mut [Asked],
     wrappers: &mut [WrapperRow],
 ) -> Result<usize, Fault>
-    ensures leaves { EndLeaves (call_verdict Begin link.entry.now.stage options (meaning source.now) (record { marks = length marks.entry.now; work = None }) (Ok tt)) result (meaning source.now) options (length arrows.old) (shortest (length facts.old) (length flags.old) (length sets.old) (length ends.old) (length found.old)) calls.old calls.new (record { link = link.entry.now; marks = marks.entry.now; list = list.old }) (record { link = link.exit.now; marks = marks.exit.now; list = list.new }) wrappers.old wrappers.new }
-    ensures settled { EndsSettled result (meaning source.now) options marks.new wrappers.new }
+    ensures leaves { EndLeaves (call_verdict Begin link.old.stage options (S.meaning source.now) (record { marks = length marks.old; work = None }) (Ok tt)) result (S.meaning source.now) options (length arrows.old) (shortest (length facts.old) (length flags.old) (length sets.old) (length ends.old) (length found.old)) calls.old calls.new (record { link = link.old; marks = marks.old; list = list.old }) (record { link = link.new; marks = marks.new; list = list.new }) wrappers.old wrappers.new }
+    ensures settled { EndsSettled result (S.meaning source.now) options marks.new wrappers.new }
 {
     run(
         link, source, options, marks, facts, flags, sets, ends, found, arrows, list, calls,

@@ -42,12 +42,12 @@ pub fn await_span(module: Module) -> Span
 /// How many rows there are, where the facts say which modules wait. An external module has no records, so every module
 /// is looked at.
 pub fn count_await_rows<S: ModuleSource>(source: &S, facts: &[YesNo]) -> usize
-    requires records { record_total (meaning source.now) ≤ 32768 }
-    requires facts { count_of (meaning source.now) ≤ length facts.now }
-    requires waits { Filled (count_of (meaning source.now)) (Awaits (meaning source.now)) facts.now }
-    requires targets { Targets (meaning source.now) }
-    ensures count { result ≡ row_total (meaning source.now) (flag facts.now) }
-    ensures only { (other : ℕ) → RowCount (meaning source.now) other → other ≡ result }
+    requires records { record_total (S.meaning source.now) ≤ 32768 }
+    requires facts { count_of (S.meaning source.now) ≤ length facts.now }
+    requires waits { Filled (count_of (S.meaning source.now)) (Awaits (S.meaning source.now)) facts.now }
+    requires targets { Targets (S.meaning source.now) }
+    ensures count { result ≡ row_total (S.meaning source.now) (flag facts.now) }
+    ensures only { (other : ℕ) → RowCount (S.meaning source.now) other → other ≡ result }
 {
     let mut n: usize = 0;
     for m in 0..source.module_count() {
@@ -74,15 +74,15 @@ fn await_row<S: ModuleSource>(
     k: usize,
     t: usize,
 ) -> AwaitRow
-    requires small { count_of (meaning source.now) ≤ 4096 }
-    requires laid { Laid (meaning source.now) first.now arrows.now }
-    requires entered { count_of (meaning source.now) ≤ length entered.old }
-    requires targets { Targets (meaning source.now) }
+    requires small { count_of (S.meaning source.now) ≤ 4096 }
+    requires laid { Laid (S.meaning source.now) first.now arrows.now }
+    requires entered { count_of (S.meaning source.now) ≤ length entered.old }
+    requires targets { Targets (S.meaning source.now) }
     requires importer { m < 4096 }
     requires place { k < 32768 }
-    requires target { t < count_of (meaning source.now) }
-    requires waits { Awaits (meaning source.now) t }
-    ensures { RowOf (meaning source.now) m k t result }
+    requires target { t < count_of (S.meaning source.now) }
+    requires waits { Awaits (S.meaning source.now) t }
+    ensures { RowOf (S.meaning source.now) m k t result }
 {
     let found = tla_source(source, first, arrows, entered, t).unwrap();
     AwaitRow {
@@ -103,15 +103,15 @@ fn write_rows<S: ModuleSource>(
     entered: &mut [YesNo],
     list: &mut [AwaitRow],
 ) -> usize
-    requires small { count_of (meaning source.now) ≤ 4096 }
-    requires records { record_total (meaning source.now) ≤ 32768 }
-    requires facts { count_of (meaning source.now) ≤ length facts.now }
-    requires waits { Filled (count_of (meaning source.now)) (Awaits (meaning source.now)) facts.now }
-    requires laid { Laid (meaning source.now) first.now arrows.now }
-    requires entered { count_of (meaning source.now) ≤ length entered.old }
-    requires targets { Targets (meaning source.now) }
-    requires room { row_total (meaning source.now) (flag facts.now) ≤ length list.old }
-    ensures { RowsWritten (meaning source.now) (flag facts.now) (count_of (meaning source.now)) list.old list.new result }
+    requires small { count_of (S.meaning source.now) ≤ 4096 }
+    requires records { record_total (S.meaning source.now) ≤ 32768 }
+    requires facts { count_of (S.meaning source.now) ≤ length facts.now }
+    requires waits { Filled (count_of (S.meaning source.now)) (Awaits (S.meaning source.now)) facts.now }
+    requires laid { Laid (S.meaning source.now) first.now arrows.now }
+    requires entered { count_of (S.meaning source.now) ≤ length entered.old }
+    requires targets { Targets (S.meaning source.now) }
+    requires room { row_total (S.meaning source.now) (flag facts.now) ≤ length list.old }
+    ensures { RowsWritten (S.meaning source.now) (flag facts.now) (count_of (S.meaning source.now)) list.old list.new result }
 {
     let mut n: usize = 0;
     for m in 0..source.module_count() {
@@ -141,16 +141,16 @@ pub fn write_await_rows<S: ModuleSource>(
     entered: &mut [YesNo],
     list: &mut [AwaitRow],
 ) -> usize
-    requires small { count_of (meaning source.now) ≤ 4096 }
-    requires records { record_total (meaning source.now) ≤ 32768 }
-    requires facts { count_of (meaning source.now) ≤ length facts.now }
-    requires waits { Filled (count_of (meaning source.now)) (Awaits (meaning source.now)) facts.now }
-    requires first { count_of (meaning source.now) < length first.old }
-    requires arrows { record_total (meaning source.now) ≤ length arrows.old }
-    requires entered { count_of (meaning source.now) ≤ length entered.old }
-    requires targets { Targets (meaning source.now) }
-    requires room { row_total (meaning source.now) (flag facts.now) ≤ length list.old }
-    ensures { AwaitRows (meaning source.now) list.old list.new result }
+    requires small { count_of (S.meaning source.now) ≤ 4096 }
+    requires records { record_total (S.meaning source.now) ≤ 32768 }
+    requires facts { count_of (S.meaning source.now) ≤ length facts.now }
+    requires waits { Filled (count_of (S.meaning source.now)) (Awaits (S.meaning source.now)) facts.now }
+    requires first { count_of (S.meaning source.now) < length first.old }
+    requires arrows { record_total (S.meaning source.now) ≤ length arrows.old }
+    requires entered { count_of (S.meaning source.now) ≤ length entered.old }
+    requires targets { Targets (S.meaning source.now) }
+    requires room { row_total (S.meaning source.now) (flag facts.now) ≤ length list.old }
+    ensures { AwaitRows (S.meaning source.now) list.old list.new result }
 {
     copy_imports(source, first, arrows);
     write_rows(source, facts, first, arrows, entered, list)

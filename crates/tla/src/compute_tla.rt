@@ -23,8 +23,8 @@ pub fn has_await(module: Module) -> bool
 
 // Yes at each module that has an `await` of its own.
 fn own_awaits<S: ModuleSource>(source: &S, facts: &mut [YesNo])
-    requires { count_of (meaning source.now) ≤ length facts.old }
-    ensures { Filled (count_of (meaning source.now)) (AwaitAt (meaning source.now)) facts.new }
+    requires { count_of (S.meaning source.now) ≤ length facts.old }
+    ensures { Filled (count_of (S.meaning source.now)) (AwaitAt (S.meaning source.now)) facts.new }
 {
     for m in 0..source.module_count() {
         facts[m] = YesNo(has_await(source.module(m)));
@@ -34,11 +34,11 @@ fn own_awaits<S: ModuleSource>(source: &S, facts: &mut [YesNo])
 /// The facts become yes exactly at the normal modules from which imports lead to one with a top-level await, itself
 /// included. Circles count.
 pub fn find_awaiting<S: ModuleSource>(source: &S, facts: &mut [YesNo], arrows: &mut [Arrow])
-    requires small { count_of (meaning source.now) ≤ 4096 }
-    requires facts { count_of (meaning source.now) ≤ length facts.old }
-    requires room { record_total (meaning source.now) ≤ length arrows.old }
-    requires targets { Targets (meaning source.now) }
-    ensures { Filled (count_of (meaning source.now)) (Awaits (meaning source.now)) facts.new }
+    requires small { count_of (S.meaning source.now) ≤ 4096 }
+    requires facts { count_of (S.meaning source.now) ≤ length facts.old }
+    requires room { record_total (S.meaning source.now) ≤ length arrows.old }
+    requires targets { Targets (S.meaning source.now) }
+    ensures { Filled (count_of (S.meaning source.now)) (Awaits (S.meaning source.now)) facts.new }
 {
     own_awaits(source, facts);
     spread_along(source, Way::Awaits, facts, arrows);
@@ -46,10 +46,10 @@ pub fn find_awaiting<S: ModuleSource>(source: &S, facts: &mut [YesNo], arrows: &
 
 /// Writes each row whole, awaiting where it was or where the facts say so.
 pub fn mark_awaiting<S: ModuleSource>(source: &S, rows: &mut [MarkRow], facts: &[YesNo])
-    requires rows { count_of (meaning source.now) ≤ length rows.old }
-    requires facts { count_of (meaning source.now) ≤ length facts.now }
-    requires waits { Filled (count_of (meaning source.now)) (Awaits (meaning source.now)) facts.now }
-    ensures { (o : LinkOptions) → AwaitDid (meaning source.now) o rows.old rows.new }
+    requires rows { count_of (S.meaning source.now) ≤ length rows.old }
+    requires facts { count_of (S.meaning source.now) ≤ length facts.now }
+    requires waits { Filled (count_of (S.meaning source.now)) (Awaits (S.meaning source.now)) facts.now }
+    ensures { (o : LinkOptions) → AwaitDid (S.meaning source.now) o rows.old rows.new }
 {
     for m in 0..source.module_count() {
         let row = rows[m];
@@ -66,13 +66,13 @@ pub fn determine_awaiting<S: ModuleSource>(
     facts: &mut [YesNo],
     arrows: &mut [Arrow],
 )
-    requires small { count_of (meaning source.now) ≤ 4096 }
-    requires rows { count_of (meaning source.now) ≤ length rows.old }
-    requires facts { count_of (meaning source.now) ≤ length facts.old }
-    requires room { record_total (meaning source.now) ≤ length arrows.old }
-    requires targets { Targets (meaning source.now) }
-    ensures marks { (o : LinkOptions) → AwaitDid (meaning source.now) o rows.old rows.new }
-    ensures facts { Filled (count_of (meaning source.now)) (Awaits (meaning source.now)) facts.new }
+    requires small { count_of (S.meaning source.now) ≤ 4096 }
+    requires rows { count_of (S.meaning source.now) ≤ length rows.old }
+    requires facts { count_of (S.meaning source.now) ≤ length facts.old }
+    requires room { record_total (S.meaning source.now) ≤ length arrows.old }
+    requires targets { Targets (S.meaning source.now) }
+    ensures marks { (o : LinkOptions) → AwaitDid (S.meaning source.now) o rows.old rows.new }
+    ensures facts { Filled (count_of (S.meaning source.now)) (Awaits (S.meaning source.now)) facts.new }
 {
     find_awaiting(source, facts, arrows);
     mark_awaiting(source, rows, facts);

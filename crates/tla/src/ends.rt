@@ -14,10 +14,10 @@ use ways::clear;
 /// Every resolved import as an arrow, in scan order; those of module m end at `ends[m]`, and begin where those of the
 /// module before end.
 pub fn copy_imports<S: ModuleSource>(source: &S, ends: &mut [usize], arrows: &mut [Arrow])
-    requires small { count_of (meaning source.now) ≤ 4096 }
-    requires ends { count_of (meaning source.now) ≤ length ends.old }
-    requires room { record_total (meaning source.now) ≤ length arrows.old }
-    ensures { LaidByEnds (meaning source.now) ends.new arrows.new }
+    requires small { count_of (S.meaning source.now) ≤ 4096 }
+    requires ends { count_of (S.meaning source.now) ≤ length ends.old }
+    requires room { record_total (S.meaning source.now) ≤ length arrows.old }
+    ensures { LaidByEnds (S.meaning source.now) ends.new arrows.new }
 {
     let mut n: usize = 0;
     for m in 0..source.module_count() {
@@ -54,11 +54,11 @@ fn find_tla_source<S: ModuleSource>(
     entered: &mut [YesNo],
     m: usize,
 ) -> Option<usize>
-    requires laid { LaidByEnds (meaning source.now) ends.now arrows.now }
-    requires entered { count_of (meaning source.now) ≤ length entered.old }
-    requires targets { Targets (meaning source.now) }
-    requires place { m < count_of (meaning source.now) }
-    ensures { Searches (meaning source.now) entered.old (m ∷ []) result entered.new }
+    requires laid { LaidByEnds (S.meaning source.now) ends.now arrows.now }
+    requires entered { count_of (S.meaning source.now) ≤ length entered.old }
+    requires targets { Targets (S.meaning source.now) }
+    requires place { m < count_of (S.meaning source.now) }
+    ensures { Searches (S.meaning source.now) entered.old (m ∷ []) result entered.new }
 {
     if entered[m].0 {
         return None;
@@ -86,13 +86,13 @@ pub fn tla_source<S: ModuleSource>(
     entered: &mut [YesNo],
     m: usize,
 ) -> Option<usize>
-    requires laid { LaidByEnds (meaning source.now) ends.now arrows.now }
-    requires entered { count_of (meaning source.now) ≤ length entered.old }
-    requires targets { Targets (meaning source.now) }
-    requires place { m < count_of (meaning source.now) }
-    ensures search { SourceOf (meaning source.now) m result }
-    ensures told { Told (meaning source.now) m result }
-    ensures only { Only (meaning source.now) m result }
+    requires laid { LaidByEnds (S.meaning source.now) ends.now arrows.now }
+    requires entered { count_of (S.meaning source.now) ≤ length entered.old }
+    requires targets { Targets (S.meaning source.now) }
+    requires place { m < count_of (S.meaning source.now) }
+    ensures search { SourceOf (S.meaning source.now) m result }
+    ensures told { Told (S.meaning source.now) m result }
+    ensures only { Only (S.meaning source.now) m result }
 {
     clear(source, entered);
     find_tla_source(source, ends, arrows, entered, m)

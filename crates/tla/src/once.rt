@@ -16,8 +16,8 @@ use spread::{Arrow, YesNo};
 
 // Nothing is known of any module yet.
 fn forget<S: ModuleSource>(source: &S, found: &mut [Option<usize>])
-    requires { count_of (meaning source.now) ≤ length found.old }
-    ensures { Known (meaning source.now) found.new }
+    requires { count_of (S.meaning source.now) ≤ length found.old }
+    ensures { Known (S.meaning source.now) found.new }
 {
     for m in 0..source.module_count() {
         found[m] = None;
@@ -33,15 +33,15 @@ fn known_source<S: ModuleSource>(
     found: &mut [Option<usize>],
     t: usize,
 ) -> usize
-    requires laid { LaidByEnds (meaning source.now) ends.now arrows.now }
-    requires entered { count_of (meaning source.now) ≤ length entered.old }
-    requires found { count_of (meaning source.now) ≤ length found.old }
-    requires known { Known (meaning source.now) found.old }
-    requires targets { Targets (meaning source.now) }
-    requires target { t < count_of (meaning source.now) }
-    requires waits { Awaits (meaning source.now) t }
-    ensures source { WaitsFor (meaning source.now) t result }
-    ensures known { Known (meaning source.now) found.new }
+    requires laid { LaidByEnds (S.meaning source.now) ends.now arrows.now }
+    requires entered { count_of (S.meaning source.now) ≤ length entered.old }
+    requires found { count_of (S.meaning source.now) ≤ length found.old }
+    requires known { Known (S.meaning source.now) found.old }
+    requires targets { Targets (S.meaning source.now) }
+    requires target { t < count_of (S.meaning source.now) }
+    requires waits { Awaits (S.meaning source.now) t }
+    ensures source { WaitsFor (S.meaning source.now) t result }
+    ensures known { Known (S.meaning source.now) found.new }
 {
     if let Some(s) = found[t] {
         return s;
@@ -62,18 +62,18 @@ fn await_row<S: ModuleSource>(
     k: usize,
     t: usize,
 ) -> AwaitRow
-    requires small { count_of (meaning source.now) ≤ 4096 }
-    requires laid { LaidByEnds (meaning source.now) ends.now arrows.now }
-    requires entered { count_of (meaning source.now) ≤ length entered.old }
-    requires found { count_of (meaning source.now) ≤ length found.old }
-    requires known { Known (meaning source.now) found.old }
-    requires targets { Targets (meaning source.now) }
+    requires small { count_of (S.meaning source.now) ≤ 4096 }
+    requires laid { LaidByEnds (S.meaning source.now) ends.now arrows.now }
+    requires entered { count_of (S.meaning source.now) ≤ length entered.old }
+    requires found { count_of (S.meaning source.now) ≤ length found.old }
+    requires known { Known (S.meaning source.now) found.old }
+    requires targets { Targets (S.meaning source.now) }
     requires importer { m < 4096 }
     requires place { k < 32768 }
-    requires target { t < count_of (meaning source.now) }
-    requires waits { Awaits (meaning source.now) t }
-    ensures row { RowOf (meaning source.now) m k t result }
-    ensures known { Known (meaning source.now) found.new }
+    requires target { t < count_of (S.meaning source.now) }
+    requires waits { Awaits (S.meaning source.now) t }
+    ensures row { RowOf (S.meaning source.now) m k t result }
+    ensures known { Known (S.meaning source.now) found.new }
 {
     let s = known_source(source, ends, arrows, entered, found, t);
     AwaitRow {
@@ -95,17 +95,17 @@ fn write_rows<S: ModuleSource>(
     found: &mut [Option<usize>],
     list: &mut [AwaitRow],
 ) -> usize
-    requires small { count_of (meaning source.now) ≤ 4096 }
-    requires records { record_total (meaning source.now) ≤ 32768 }
-    requires facts { count_of (meaning source.now) ≤ length facts.now }
-    requires waits { Filled (count_of (meaning source.now)) (Awaits (meaning source.now)) facts.now }
-    requires laid { LaidByEnds (meaning source.now) ends.now arrows.now }
-    requires entered { count_of (meaning source.now) ≤ length entered.old }
-    requires found { count_of (meaning source.now) ≤ length found.old }
-    requires known { Known (meaning source.now) found.old }
-    requires targets { Targets (meaning source.now) }
-    requires room { row_total (meaning source.now) (flag facts.now) ≤ length list.old }
-    ensures { RowsWritten (meaning source.now) (flag facts.now) (count_of (meaning source.now)) list.old list.new result }
+    requires small { count_of (S.meaning source.now) ≤ 4096 }
+    requires records { record_total (S.meaning source.now) ≤ 32768 }
+    requires facts { count_of (S.meaning source.now) ≤ length facts.now }
+    requires waits { Filled (count_of (S.meaning source.now)) (Awaits (S.meaning source.now)) facts.now }
+    requires laid { LaidByEnds (S.meaning source.now) ends.now arrows.now }
+    requires entered { count_of (S.meaning source.now) ≤ length entered.old }
+    requires found { count_of (S.meaning source.now) ≤ length found.old }
+    requires known { Known (S.meaning source.now) found.old }
+    requires targets { Targets (S.meaning source.now) }
+    requires room { row_total (S.meaning source.now) (flag facts.now) ≤ length list.old }
+    ensures { RowsWritten (S.meaning source.now) (flag facts.now) (count_of (S.meaning source.now)) list.old list.new result }
 {
     let mut n: usize = 0;
     for m in 0..source.module_count() {
@@ -136,17 +136,17 @@ pub fn write_await_rows_once<S: ModuleSource>(
     found: &mut [Option<usize>],
     list: &mut [AwaitRow],
 ) -> usize
-    requires small { count_of (meaning source.now) ≤ 4096 }
-    requires records { record_total (meaning source.now) ≤ 32768 }
-    requires facts { count_of (meaning source.now) ≤ length facts.now }
-    requires waits { Filled (count_of (meaning source.now)) (Awaits (meaning source.now)) facts.now }
-    requires ends { count_of (meaning source.now) ≤ length ends.old }
-    requires arrows { record_total (meaning source.now) ≤ length arrows.old }
-    requires entered { count_of (meaning source.now) ≤ length entered.old }
-    requires found { count_of (meaning source.now) ≤ length found.old }
-    requires targets { Targets (meaning source.now) }
-    requires room { row_total (meaning source.now) (flag facts.now) ≤ length list.old }
-    ensures { AwaitRows (meaning source.now) list.old list.new result }
+    requires small { count_of (S.meaning source.now) ≤ 4096 }
+    requires records { record_total (S.meaning source.now) ≤ 32768 }
+    requires facts { count_of (S.meaning source.now) ≤ length facts.now }
+    requires waits { Filled (count_of (S.meaning source.now)) (Awaits (S.meaning source.now)) facts.now }
+    requires ends { count_of (S.meaning source.now) ≤ length ends.old }
+    requires arrows { record_total (S.meaning source.now) ≤ length arrows.old }
+    requires entered { count_of (S.meaning source.now) ≤ length entered.old }
+    requires found { count_of (S.meaning source.now) ≤ length found.old }
+    requires targets { Targets (S.meaning source.now) }
+    requires room { row_total (S.meaning source.now) (flag facts.now) ≤ length list.old }
+    ensures { AwaitRows (S.meaning source.now) list.old list.new result }
 {
     copy_imports(source, ends, arrows);
     forget(source, found);

@@ -20,10 +20,10 @@ pub fn is_import(kind: ImportKind) -> bool
 
 /// Every resolved import as an arrow, in scan order; those of module m stand from `first[m]` up to `first[m + 1]`.
 pub fn copy_imports<S: ModuleSource>(source: &S, first: &mut [usize], arrows: &mut [Arrow])
-    requires small { count_of (meaning source.now) ≤ 4096 }
-    requires first { count_of (meaning source.now) < length first.old }
-    requires room { record_total (meaning source.now) ≤ length arrows.old }
-    ensures { Laid (meaning source.now) first.new arrows.new }
+    requires small { count_of (S.meaning source.now) ≤ 4096 }
+    requires first { count_of (S.meaning source.now) < length first.old }
+    requires room { record_total (S.meaning source.now) ≤ length arrows.old }
+    ensures { Laid (S.meaning source.now) first.new arrows.new }
 {
     let mut n: usize = 0;
     let count = source.module_count();
@@ -54,11 +54,11 @@ fn find_tla_source<S: ModuleSource>(
     entered: &mut [YesNo],
     m: usize,
 ) -> Option<usize>
-    requires laid { Laid (meaning source.now) first.now arrows.now }
-    requires entered { count_of (meaning source.now) ≤ length entered.old }
-    requires targets { Targets (meaning source.now) }
-    requires place { m < count_of (meaning source.now) }
-    ensures { Searches (meaning source.now) entered.old (m ∷ []) result entered.new }
+    requires laid { Laid (S.meaning source.now) first.now arrows.now }
+    requires entered { count_of (S.meaning source.now) ≤ length entered.old }
+    requires targets { Targets (S.meaning source.now) }
+    requires place { m < count_of (S.meaning source.now) }
+    ensures { Searches (S.meaning source.now) entered.old (m ∷ []) result entered.new }
 {
     if entered[m].0 {
         return None;
@@ -85,13 +85,13 @@ pub fn tla_source<S: ModuleSource>(
     entered: &mut [YesNo],
     m: usize,
 ) -> Option<usize>
-    requires laid { Laid (meaning source.now) first.now arrows.now }
-    requires entered { count_of (meaning source.now) ≤ length entered.old }
-    requires targets { Targets (meaning source.now) }
-    requires place { m < count_of (meaning source.now) }
-    ensures search { SourceOf (meaning source.now) m result }
-    ensures told { Told (meaning source.now) m result }
-    ensures only { Only (meaning source.now) m result }
+    requires laid { Laid (S.meaning source.now) first.now arrows.now }
+    requires entered { count_of (S.meaning source.now) ≤ length entered.old }
+    requires targets { Targets (S.meaning source.now) }
+    requires place { m < count_of (S.meaning source.now) }
+    ensures search { SourceOf (S.meaning source.now) m result }
+    ensures told { Told (S.meaning source.now) m result }
+    ensures only { Only (S.meaning source.now) m result }
 {
     clear(source, entered);
     find_tla_source(source, first, arrows, entered, m)

@@ -26,8 +26,8 @@ pub enum Way {
 
 // Whether record k of module m, of this kind, leads on.
 fn follows<S: ModuleSource>(source: &S, way: Way, m: usize, k: usize, kind: ImportKind) -> bool
-    requires { kind ≡ (record_at (meaning source.now) m k).kind }
-    ensures { result ≡ followed way (meaning source.now) m (record_at (meaning source.now) m k) }
+    requires { kind ≡ (record_at (S.meaning source.now) m k).kind }
+    ensures { result ≡ followed way (S.meaning source.now) m (record_at (S.meaning source.now) m k) }
 {
     match way {
         Way::Stars => source.record(m, k).star,
@@ -67,9 +67,9 @@ fn draw(way: Way, m: u32, t: u32) -> Arrow
 
 // Every record that leads on, as an arrow; the answer is how many there are.
 fn copy_arrows<S: ModuleSource>(source: &S, way: Way, arrows: &mut [Arrow]) -> usize
-    requires small { count_of (meaning source.now) ≤ 4096 }
-    requires room { record_total (meaning source.now) ≤ length arrows.old }
-    ensures { Copied way (meaning source.now) arrows.new result }
+    requires small { count_of (S.meaning source.now) ≤ 4096 }
+    requires room { record_total (S.meaning source.now) ≤ length arrows.old }
+    ensures { Copied way (S.meaning source.now) arrows.new result }
 {
     let mut n: usize = 0;
     for m in 0..source.module_count() {
@@ -97,11 +97,11 @@ pub fn spread_along<S: ModuleSource, F: Fact>(
     facts: &mut [F],
     arrows: &mut [Arrow],
 )
-    requires small { count_of (meaning source.now) ≤ 4096 }
-    requires facts { count_of (meaning source.now) ≤ length facts.old }
-    requires room { record_total (meaning source.now) ≤ length arrows.old }
-    requires targets { Targets (meaning source.now) }
-    ensures { Carried zero join way (meaning source.now) facts.old facts.new }
+    requires small { count_of (S.meaning source.now) ≤ 4096 }
+    requires facts { count_of (S.meaning source.now) ≤ length facts.old }
+    requires room { record_total (S.meaning source.now) ≤ length arrows.old }
+    requires targets { Targets (S.meaning source.now) }
+    ensures { Carried F.zero F.join way (S.meaning source.now) facts.old facts.new }
 {
     let n = copy_arrows(source, way, arrows);
     let _ = spread(facts, &arrows[0..n]);

@@ -46,9 +46,9 @@ fn picks<S: ModuleSource>(
     kind: ImportKind,
     t: usize,
 ) -> bool
-    requires kind { kind ≡ (record_at (meaning source.now) m k).kind }
+    requires kind { kind ≡ (record_at (S.meaning source.now) m k).kind }
     requires from { m < length from.now }
-    ensures { result ≡ picked pick (meaning source.now) (flag from.now) m (record_at (meaning source.now) m k) t }
+    ensures { result ≡ picked pick (S.meaning source.now) (flag from.now) m (record_at (S.meaning source.now) m k) t }
 {
     match pick {
         Pick::Every => true,
@@ -60,8 +60,8 @@ fn picks<S: ModuleSource>(
 
 /// Every flag of a module is no.
 pub fn clear<S: ModuleSource>(source: &S, flags: &mut [YesNo])
-    requires { count_of (meaning source.now) ≤ length flags.old }
-    ensures { Cleared (count_of (meaning source.now)) flags.old flags.new }
+    requires { count_of (S.meaning source.now) ≤ length flags.old }
+    ensures { Cleared (count_of (S.meaning source.now)) flags.old flags.new }
 {
     for m in 0..source.module_count() {
         flags[m] = YesNo(false);
@@ -70,10 +70,10 @@ pub fn clear<S: ModuleSource>(source: &S, flags: &mut [YesNo])
 
 /// Raises the flag at the target of every record that is picked.
 pub fn point_at<S: ModuleSource>(source: &S, pick: Pick, from: &[YesNo], flags: &mut [YesNo])
-    requires from { count_of (meaning source.now) ≤ length from.now }
-    requires flags { count_of (meaning source.now) ≤ length flags.old }
-    requires targets { Targets (meaning source.now) }
-    ensures { PointedAt pick (meaning source.now) (flag from.now) flags.old flags.new }
+    requires from { count_of (S.meaning source.now) ≤ length from.now }
+    requires flags { count_of (S.meaning source.now) ≤ length flags.old }
+    requires targets { Targets (S.meaning source.now) }
+    ensures { PointedAt pick (S.meaning source.now) (flag from.now) flags.old flags.new }
 {
     for m in 0..source.module_count() {
         let Module::Normal(_) = source.module(m) else {

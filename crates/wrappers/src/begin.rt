@@ -18,8 +18,8 @@ fn scanned_kind(module: Module) -> ExportsKind
 
 /// The kinds that were scanned, and nothing else settled; rows past the last module stay.
 pub fn begin_rows<S: ModuleSource>(source: &S, rows: &mut [MarkRow])
-    requires { count_of (meaning source.now) ≤ length rows.old }
-    ensures { BeginDid (meaning source.now) rows.old rows.new }
+    requires { count_of (S.meaning source.now) ≤ length rows.old }
+    ensures { BeginDid (S.meaning source.now) rows.old rows.new }
 {
     for m in 0..source.module_count() {
         rows[m] = Mark::of_kind(scanned_kind(source.module(m))).row();

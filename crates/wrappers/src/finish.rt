@@ -59,8 +59,8 @@ fn wrapper_row(options: LinkOptions, m: u32, kind: ExportsKind) -> WrapperRow
 
 /// How many wrappers finish writes over these rows.
 pub fn count_wrappers<S: ModuleSource>(source: &S, options: LinkOptions, rows: &[MarkRow]) -> usize
-    requires { count_of (meaning source.now) ≤ length rows.now }
-    ensures { result ≡ length (wrapper_rows (meaning source.now) options rows.now (count_of (meaning source.now))) }
+    requires { count_of (S.meaning source.now) ≤ length rows.now }
+    ensures { result ≡ length (wrapper_rows (S.meaning source.now) options rows.now (count_of (S.meaning source.now))) }
 {
     let mut n: usize = 0;
     for m in 0..source.module_count() {
@@ -78,11 +78,11 @@ pub fn write_wrappers<S: ModuleSource>(
     rows: &[MarkRow],
     list: &mut [WrapperRow],
 ) -> usize
-    requires small { count_of (meaning source.now) ≤ 4096 }
-    requires rows { count_of (meaning source.now) ≤ length rows.now }
-    requires room { length (wrapper_rows (meaning source.now) options rows.now (count_of (meaning source.now))) ≤ length list.old }
-    ensures count { result ≡ length (wrapper_rows (meaning source.now) options rows.now (count_of (meaning source.now))) }
-    ensures list { list.new ≡ wrapper_rows (meaning source.now) options rows.now (count_of (meaning source.now)) ++ drop result list.old }
+    requires small { count_of (S.meaning source.now) ≤ 4096 }
+    requires rows { count_of (S.meaning source.now) ≤ length rows.now }
+    requires room { length (wrapper_rows (S.meaning source.now) options rows.now (count_of (S.meaning source.now))) ≤ length list.old }
+    ensures count { result ≡ length (wrapper_rows (S.meaning source.now) options rows.now (count_of (S.meaning source.now))) }
+    ensures list { list.new ≡ wrapper_rows (S.meaning source.now) options rows.now (count_of (S.meaning source.now)) ++ drop result list.old }
 {
     let mut n: usize = 0;
     for m in 0..source.module_count() {
@@ -97,8 +97,8 @@ pub fn write_wrappers<S: ModuleSource>(
 
 /// Wraps what strict order with manual groups asks for, and writes each row whole.
 pub fn finish_rows<S: ModuleSource>(source: &S, options: LinkOptions, rows: &mut [MarkRow])
-    requires { count_of (meaning source.now) ≤ length rows.old }
-    ensures { FinishDid (meaning source.now) options rows.old rows.new }
+    requires { count_of (S.meaning source.now) ≤ length rows.old }
+    ensures { FinishDid (S.meaning source.now) options rows.old rows.new }
 {
     for m in 0..source.module_count() {
         let mark = Mark::read(rows[m]);

@@ -16,7 +16,7 @@ use ways::{Pick, Way, clear, point_at, spread_along};
 
 // A normal module but the runtime.
 fn may_wrap<S: ModuleSource>(source: &S, m: usize) -> bool
-    ensures { (result ≡ true) ↔ MayWrap (meaning source.now) m }
+    ensures { (result ≡ true) ↔ MayWrap (S.meaning source.now) m }
 {
     let Module::Normal(_) = source.module(m) else {
         return false;
@@ -40,10 +40,10 @@ fn wrap_starts<S: ModuleSource>(
     pointed: &[YesNo],
     facts: &mut [YesNo],
 )
-    requires rows { count_of (meaning source.now) ≤ length rows.now }
-    requires pointed { count_of (meaning source.now) ≤ length pointed.now }
-    requires facts { count_of (meaning source.now) ≤ length facts.old }
-    ensures { Filled (count_of (meaning source.now)) (Starts (meaning source.now) rows.now pointed.now) facts.new }
+    requires rows { count_of (S.meaning source.now) ≤ length rows.now }
+    requires pointed { count_of (S.meaning source.now) ≤ length pointed.now }
+    requires facts { count_of (S.meaning source.now) ≤ length facts.old }
+    ensures { Filled (count_of (S.meaning source.now)) (Starts (S.meaning source.now) rows.now pointed.now) facts.new }
 {
     for m in 0..source.module_count() {
         let mark = Mark::read(rows[m]);
@@ -59,10 +59,10 @@ fn write_wraps<S: ModuleSource>(
     facts: &[YesNo],
     required: &[YesNo],
 )
-    requires rows { count_of (meaning source.now) ≤ length rows.old }
-    requires facts { count_of (meaning source.now) ≤ length facts.now }
-    requires required { count_of (meaning source.now) ≤ length required.now }
-    ensures { Written (count_of (meaning source.now)) (WrappedRow (meaning source.now) facts.now required.now) rows.old rows.new }
+    requires rows { count_of (S.meaning source.now) ≤ length rows.old }
+    requires facts { count_of (S.meaning source.now) ≤ length facts.now }
+    requires required { count_of (S.meaning source.now) ≤ length required.now }
+    ensures { Written (count_of (S.meaning source.now)) (WrappedRow (S.meaning source.now) facts.now required.now) rows.old rows.new }
 {
     for m in 0..source.module_count() {
         let mark = Mark::read(rows[m]);
@@ -82,13 +82,13 @@ pub fn wrap_modules<S: ModuleSource>(
     flags: &mut [YesNo],
     arrows: &mut [Arrow],
 )
-    requires small { count_of (meaning source.now) ≤ 4096 }
-    requires rows { count_of (meaning source.now) ≤ length rows.old }
-    requires facts { count_of (meaning source.now) ≤ length facts.old }
-    requires flags { count_of (meaning source.now) ≤ length flags.old }
-    requires room { record_total (meaning source.now) ≤ length arrows.old }
-    requires targets { Targets (meaning source.now) }
-    ensures { (o : LinkOptions) → WrapDid (meaning source.now) o rows.old rows.new }
+    requires small { count_of (S.meaning source.now) ≤ 4096 }
+    requires rows { count_of (S.meaning source.now) ≤ length rows.old }
+    requires facts { count_of (S.meaning source.now) ≤ length facts.old }
+    requires flags { count_of (S.meaning source.now) ≤ length flags.old }
+    requires room { record_total (S.meaning source.now) ≤ length arrows.old }
+    requires targets { Targets (S.meaning source.now) }
+    ensures { (o : LinkOptions) → WrapDid (S.meaning source.now) o rows.old rows.new }
 {
     clear(source, flags);
     point_at(source, Pick::Every, facts, flags);

@@ -23,8 +23,8 @@ in_rows g c =
     let below = normal_below (g.S.ModuleSource.meaning c.args.source.now) c.in-Some.t (c.in-Normal-module.importee, sym c.in-Normal-module.ensures) in
     omega (arith, below, c.requires, c.read_rows.auto.rows, c.loop-m.auto.rows, c.loop-k.auto.rows)
 
-pub slice-copy-out·read : goal.slice-copy-out·read
-slice-copy-out·read g c = in_rows g c
+pub slice_copy_out-read : goal.slice_copy_out-read
+slice_copy_out-read g c = in_rows g c
 
 pub bounds-rows-t : goal.bounds-rows-t
 bounds-rows-t g c = in_rows g (goal.at.bounds-rows-t g c).In-Normal-module
