@@ -1,7 +1,6 @@
 // Writes any source in the text form, each module with its number in a comment.
 use source::{ImportRecord, Module, ModuleSource, NormalModule};
 use std::alloc::{AllocError, Global};
-use std::fmt;
 use std::fmt::Write;
 use table_words::{Flag, exports_word, flag_word, has_flag, import_word};
 
@@ -16,13 +15,11 @@ const FLAGS: [Flag; 5] = [
 /// The source as a text table. What it reads as again is the same source.
 pub fn write_table<S: ModuleSource>(heap: Global, source: &S) -> Result<String, AllocError> {
     let mut out = String::new(heap);
-    match write_modules(&mut out, source) {
-        Ok(()) => Ok(out),
-        Err(_) => Err(AllocError),
-    }
+    write_modules(&mut out, source)?;
+    Ok(out)
 }
 
-fn write_modules<S: ModuleSource>(out: &mut String, source: &S) -> fmt::Result {
+fn write_modules<S: ModuleSource>(out: &mut String, source: &S) -> Result<(), AllocError> {
     let runtime = source.runtime();
     writeln!(out, "runtime {runtime}")?;
     for m in 0..source.module_count() {
@@ -38,7 +35,7 @@ fn write_modules<S: ModuleSource>(out: &mut String, source: &S) -> fmt::Result {
     Ok(())
 }
 
-fn write_normal(out: &mut String, module: &NormalModule) -> fmt::Result {
+fn write_normal(out: &mut String, module: &NormalModule) -> Result<(), AllocError> {
     let kind = exports_word(module.scanned);
     write!(out, "module {kind}")?;
     for flag in FLAGS {
@@ -55,7 +52,7 @@ fn write_normal(out: &mut String, module: &NormalModule) -> fmt::Result {
     Ok(())
 }
 
-fn write_record(out: &mut String, record: &ImportRecord) -> fmt::Result {
+fn write_record(out: &mut String, record: &ImportRecord) -> Result<(), AllocError> {
     let kind = import_word(record.kind);
     write!(out, "  {kind} ")?;
     match record.target {
