@@ -221,7 +221,7 @@ one_row waits e = ap (λ (b : Bool). 0 + (0 + cond b 1 0)) e
 the_row : (old left : List AwaitRow) (n : ℕ) → AwaitRows await_circle old left n → (n ≡ 1) × ((row_in left 0).importer ≡ 4) × ((row_in left 0).«record» ≡ 0) × ((row_in left 0).source ≡ 3)
 the_row old left n r =
     let row = r.each 4 0 2 (points_at await_circle 4 0 Require 2 (_, refl) refl refl) awaits_2 in
-    (r.count ∙ one_row r.waits ((r.when 2 (omega arith)).1 awaits_2), row.by, row.at, awaits_three (row_in left 0).source row.found.reached.0)
+    (r.count ∙ one_row r.waits ((r.when 2 (omega arith)).1 awaits_2), row.by, row.at, awaits_three (row_in left 0).source row.reached.0)
 
 -- a lone entry goes by the format alone
 abbrev with_format : LinkOptions → OutputFormat → LinkOptions
