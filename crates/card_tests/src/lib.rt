@@ -1,7 +1,6 @@
 // What the check, the source and the writer do with a small card.
 #![tactic(auto)]
 
-
 /// A card of three modules, the last external, and two records.
 /// - runtime 0, 3 modules, 2 records
 /// - 0: ESM

@@ -1,7 +1,7 @@
 -- What classifying comes to.
 --
 --   Small   a classified source has no more rows than the limits allow
-use Rattle.std.specs.Prelude.{◌≡◌, ℕ, ◌≤◌, length, vec_items}
+use Rattle.std.specs.Prelude.{◌≤◌, length, vec_items}
 use Rattle.source.specs.Numbers.{module_limit, record_limit}
 use Rattle.classify.specs.declared.job.Classified.{Classified}
 

@@ -1,24 +1,24 @@
 -- The parts of the star pass together do what it promises. Assumes nothing.
-use Rattle.std.proofs.Common.{◌≡◌, ℕ, ◌<◌, ◌≤◌, Bool, true, false, ◌&&◌, ◌||◌, ◌⊎◌, ◌↔◌, List, length, sym, refl, ap, ◌∙◌, subst, inl, inr, arith}
+use Rattle.std.proofs.Common.{◌≡◌, ℕ, ◌<◌, ◌≤◌, Bool, true, ◌&&◌, ◌||◌, ◌⊎◌, ◌↔◌, List, length, sym, ap, ◌∙◌, inl, inr, arith}
 use mathlib.Core.Bool.{false≢true}
 use Rattle.std.proofs.lemmas.Bool.{and_parts, and_from, or_cases, or_left, or_right}
 use Rattle.source.specs.Meaning.{Meaning, count_of}
 use Rattle.marks.specs.declared.options.LinkOptions.{LinkOptions}
 use Rattle.marks.specs.declared.rows.MarkRow.{MarkRow}
-use Rattle.marks.specs.Passes.{Did, StarDid, OpenExports}
+use Rattle.marks.specs.Passes.{StarDid, OpenExports}
 use Rattle.marks.specs.Records.{HasStar, Leads, here, along}
 use Rattle.marks.specs.Records as records
 use Rattle.marks.specs.Rules.{agrees, is_wrapped, read_wrap}
-use Rattle.marks.specs.Rows.{row_at, kind_in, Raised, Written}
-use Rattle.marks.proofs.Records.{leads_as, normal_below}
+use Rattle.marks.specs.Rows.{row_at, kind_in, Written}
+use Rattle.marks.proofs.Records.{leads_as}
 use Rattle.marks.proofs.Writes.{read_agrees, read_again, raised_stays, raised_or}
 use Rattle.spread.specs.declared.yes_no.YesNo.{YesNo}
 use Rattle.spread.specs.Kinds.{plain_no, either}
 use Rattle.ways.specs.declared.Way.TheVariants.{Stars as StarWay}
 use Rattle.ways.specs.declared.targets.Pick.TheVariants.{Stars as StarPick}
-use Rattle.ways.specs.Targets.{flag, Filled, Cleared, PointedAt, Picked}
+use Rattle.ways.specs.Targets.{flag, Filled, Cleared, PointedAt}
 use Rattle.ways.specs.Ways.{Targets, Carried}
-use Rattle.ways.proofs.Steps.{stars_to, stars_from, carried_long, carried_from, carried_to}
+use Rattle.ways.proofs.Steps.{stars_to, stars_from, carried_from, carried_to}
 use Rattle.dynamic_exports.specs.Stars.{OpenAt, Starred, StarredRow}
 
 -- the test by which a row is written

@@ -1,15 +1,14 @@
 -- Ranks of entry modules, in module order. Assumes nothing.
-use Rattle.std.proofs.Common.{◌≡◌, ℕ, zero, suc, ◌+◌, ◌-◌, ◌<◌, ◌≤◌, Bool, true, false, cond, ◌⊎◌, List, length, get_or, take, set, sym, refl, ap, ◌∙◌, subst, inl, inr, arith}
+use Rattle.std.proofs.Common.{◌≡◌, ℕ, zero, suc, ◌+◌, ◌-◌, ◌<◌, ◌≤◌, true, false, cond, List, length, get_or, set, sym, ap, ◌∙◌, subst, inl, inr, arith}
 use mathlib.Core.Bool.{false≢true}
 use Rattle.std.proofs.lemmas.List.{get_or-set_same, get_or-set_other}
 use Rattle.std.proofs.lemmas.List.Sums.{count_by_more_yes, count_by_more_no, sum_by_more}
-use Rattle.std.proofs.lemmas.Bool.{cases_eq, cases_lt, cases_order, cond-true, cond-false}
-use Rattle.source.specs.declared.Module.{Module}
+use Rattle.std.proofs.lemmas.Bool.{cases_eq, cases_lt, cases_order}
 use Rattle.source.specs.Meaning.{Meaning, Scanned, count_of, module_at, past_modules}
 use Rattle.marks.specs.Passes.{is_entry, entry_scanned, rank}
 use Rattle.marks.proofs.Records.{past_external}
 use Rattle.spread.specs.declared.entry_set.EntrySet.{EntrySet}
-use Rattle.spread.specs.Kinds.{no_entry, single_entry}
+use Rattle.spread.specs.Kinds.{no_entry}
 use Rattle.entries.specs.Starts.{start_of, Ranked}
 
 pub entry_below : (w : Meaning) (m : ℕ) → is_entry (module_at w m) ≡ true → m < count_of w

@@ -1,12 +1,12 @@
 -- The parts of the entries pass together do what it promises. Assumes nothing.
-use Rattle.std.proofs.Common.{◌≡◌, ℕ, ◌/◌, ◌%◌, ◌^◌, ◌<◌, ◌≤◌, Bool, true, false, cond, ltb, ◌⊎◌, ◌↔◌, List, length, get_or, sym, refl, ap, ◌∙◌, subst, inl, inr, arith, pow_pos}
+use Rattle.std.proofs.Common.{◌≡◌, ℕ, ◌^◌, ◌<◌, ◌≤◌, true, ltb, ◌↔◌, List, length, get_or, sym, ap, ◌∙◌, subst, inl, inr, arith, pow_pos}
 use lib.Bits.{or_lt}
 use lib.Pow.{pow-lt}
-use Rattle.std.proofs.lemmas.Bool.{cases_Bool, cases_lt, cond-true, cond-false, lt-ltb}
+use Rattle.std.proofs.lemmas.Bool.{cases_Bool, cond-true, cond-false, lt-ltb}
 use Rattle.source.specs.Meaning.{Meaning, count_of, module_at}
 use Rattle.marks.specs.declared.options.LinkOptions.{LinkOptions}
 use Rattle.marks.specs.declared.rows.MarkRow.{MarkRow}
-use Rattle.marks.specs.Passes.{Did, EntriesDid, EntriesTo, Brings, is_entry, rank}
+use Rattle.marks.specs.Passes.{EntriesDid, EntriesTo, Brings, is_entry, rank}
 use Rattle.marks.specs.Records.{Leads, here, along}
 use Rattle.marks.specs.Rules.{agrees, is_wrapped, read_wrap}
 use Rattle.marks.specs.Rows.{row_at, Written}

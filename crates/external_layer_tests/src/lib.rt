@@ -1,7 +1,6 @@
 // What a layer holds, and what a pile of two means.
 #![tactic(auto)]
 
-
 /// A card of two normal modules, of which the second has a record.
 /// - runtime 0, 2 modules, 1 record
 /// - 0: ESM

@@ -1,16 +1,15 @@
 -- What an accepted check tells: everything that a pass asks for. Assumes nothing.
-use Rattle.std.proofs.Common.{◌≡◌, ℕ, ◌+◌, ◌<◌, ◌≤◌, Bool, true, false, not, ◌||◌, ltb, leb, length, get_or, is_ok, Some, None, Ok, Err, Option, sym, refl, ap, ◌∙◌, subst, inl, inr, arith}
+use Rattle.std.proofs.Common.{◌≡◌, ℕ, ◌+◌, ◌<◌, ◌≤◌, true, false, not, ltb, length, is_ok, Some, Ok, Option, sym, ap, ◌∙◌, subst, arith}
 use Rattle.std.proofs.lemmas.Bool.{ltb-false, leb-false, or_parts}
 use Rattle.faults.specs.declared.Refusal.TheVariants.{TooManyModules, TooManyRecords, MarksTooShort, WorkTooShort, RuntimeNotEsm, TargetPastEnd}
-use Rattle.faults.specs.Faults.{Verdict, refuse_if, and_then, each}
+use Rattle.faults.specs.Faults.{refuse_if}
 use Rattle.faults.proofs.Checks.{accepted, accepted_if, accepted_first, accepted_second, accepted_each}
 use Rattle.source.specs.declared.Module.{Module}
 use Rattle.source.specs.declared.NormalModule.{NormalModule}
 use Rattle.source.specs.declared.Module.TheVariants.{Normal}
-use Rattle.source.specs.Meaning.{Meaning, Scanned, count_of, module_at, scanned_at, records_of, record_at, past_modules, past_records}
+use Rattle.source.specs.Meaning.{Meaning, count_of, module_at, scanned_at, records_of, record_at, past_modules, past_records}
 use Rattle.source.specs.Numbers.{module_limit, record_limit}
 use Rattle.marks.specs.declared.options.LinkOptions.{LinkOptions}
-use Rattle.marks.specs.Records.{Points, Mentions}
 use Rattle.marks.proofs.Records.{normal_below, points_in}
 use Rattle.ways.specs.Ways.{Targets, record_total}
 use Rattle.lawful.specs.declared.check.Lent.{Lent}

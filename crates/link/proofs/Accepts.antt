@@ -1,5 +1,5 @@
 -- A call that passes its checks is accepted, and moves the stage on. Assumes nothing.
-use Rattle.std.proofs.Common.{◌≡◌, Bool, not, is_some, Some, Ok, Option, sym, refl, ap, ◌∙◌}
+use Rattle.std.proofs.Common.{◌≡◌, not, is_some, Some, Ok, Option, sym, ap, ◌∙◌}
 use Rattle.faults.specs.declared.Refusal.TheVariants.{NotAtThisStage}
 use Rattle.faults.specs.Faults.{Verdict, refuse_if, and_then}
 use Rattle.faults.proofs.Checks.{first_passes}
@@ -10,7 +10,7 @@ use Rattle.lawful.specs.Lawful.{link_fault, source_verdict}
 use Rattle.link.specs.declared.stage.Call.{Call}
 use Rattle.link.specs.declared.stage.Stage.{Stage}
 use Rattle.link.specs.Stages.{after}
-use Rattle.link.specs.Calls.{call_verdict, or_stay, stage_left}
+use Rattle.link.specs.Calls.{call_verdict, or_stay}
 
 module _ (call : Call) (stage next : Stage) (e : after stage call ≡ Some next) where
   -- past the stage and the source, the call's own check decides

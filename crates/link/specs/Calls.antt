@@ -14,7 +14,7 @@
 --   AwaitAnswer      await answers the first check that refuses, and else by the number of its rows
 --   AwaitLeaves      an accepted await writes its rows to the front of the list, and a refused one leaves the list
 --   Leaves           the rows after an accepted call are as Did says, and after a refused one as they were
-use Rattle.std.specs.Prelude.{◌≡◌, ℕ, Bool, not, List, ◌++◌, length, drop, is_some, Some, None, Ok, Err, Option, Result, nat_lt}
+use Rattle.std.specs.Prelude.{◌≡◌, ℕ, not, List, ◌++◌, length, drop, is_some, Some, None, Ok, Err, Option, Result, nat_lt}
 use Rattle.faults.specs.declared.Fault.{Fault}
 use Rattle.faults.specs.declared.Refusal.TheVariants.{NotAtThisStage, TooManyEntries, ResultsTooShort}
 use Rattle.faults.specs.Faults.{Verdict, refuse_if, and_then}

@@ -7,7 +7,7 @@ use Rattle.source.specs.declared.ImportKind.{ImportKind}
 use Rattle.source.specs.declared.ImportRecord.{ImportRecord}
 use Rattle.source.specs.declared.Module.TheVariants.{External, Normal}
 use Rattle.source.specs.declared.NormalModule.{NormalModule}
-use Rattle.source.specs.Meaning.{Meaning, Scanned, count_of, module_at, records_of, records_in, record_at, look_at, past_modules, past_records}
+use Rattle.source.specs.Meaning.{Meaning, Scanned, count_of, records_of, records_in, record_at, look_at, past_modules, past_records}
 use Rattle.marks.specs.Records.{NormalAt, ExternalAt, Points, Leads, here, along}
 
 pub none_some : {X : Type 0} (x : X) → None ≡ Some x → ⊥

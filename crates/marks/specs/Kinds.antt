@@ -8,7 +8,7 @@
 --   scanned_kind    the kind that was scanned
 --   settled_kind    the kind that the module ends with
 --   importer_rule   a CommonJS importer is wrapped: it is no entry, or the format asks for it
-use Rattle.std.specs.Prelude.{◌≡◌, ℕ, Bool, true, false, cond, not, ◌||◌, List, [], ◌∷◌, Some, None, Option, ◌==◌}
+use Rattle.std.specs.Prelude.{ℕ, Bool, true, false, cond, not, ◌||◌, List, [], ◌∷◌, Some, None, Option, ◌==◌}
 use Rattle.source.specs.declared.ImportKind.{ImportKind}
 use Rattle.source.specs.declared.ImportKind.TheVariants.{Import, Require, DynamicImport, AtImport, UrlImport, NewUrl, HotAccept}
 use Rattle.source.specs.declared.ImportRecord.{ImportRecord}

@@ -10,14 +10,14 @@
 --   FinishDid        finish, with StrictWraps: which modules it wraps
 use Rattle.std.specs.Prelude.{◌≡◌, ℕ, ◌/◌, ◌%◌, ◌^◌, ◌<◌, ◌≤◌, Bool, true, false, ◌⊎◌, ◌↔◌, List, length, take, count_by, ◌≢◌}
 use Rattle.source.specs.declared.ExportsKind.{ExportsKind}
-use Rattle.source.specs.declared.ExportsKind.TheVariants.{None as Unknown, Esm, CommonJs}
+use Rattle.source.specs.declared.ExportsKind.TheVariants.{CommonJs}
 use Rattle.source.specs.declared.Module.{Module}
 use Rattle.source.specs.declared.Module.TheVariants.{External, Normal}
 use Rattle.source.specs.declared.NormalModule.{NormalModule}
 use Rattle.source.specs.Meaning.{Meaning, Scanned, count_of, module_at}
 use Rattle.marks.specs.declared.options.LinkOptions.{LinkOptions}
 use Rattle.marks.specs.declared.rows.MarkRow.{MarkRow}
-use Rattle.marks.specs.Records.{NormalAt, ExternalAt, Points, Mentions, Imports, Requires, ActsRequiring, HasStar, Stars, LeadsOn, Leads}
+use Rattle.marks.specs.Records.{NormalAt, ExternalAt, Mentions, Imports, Requires, ActsRequiring, HasStar, Stars, LeadsOn, Leads}
 use Rattle.marks.specs.Rows.{row_at, kind_in, wrapped_in, required_in, dynamic_in, awaiting_in, entries_in, keeps_rule, Raised}
 use Rattle.marks.specs.Rules.{cleared}
 use Rattle.marks.specs.Kinds.{ripe, scanned_kind, importer_rule}

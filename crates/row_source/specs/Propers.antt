@@ -1,12 +1,12 @@
 -- Nothing to believe here, only proofs, which the source's clauses cite: accepted rows have a proper meaning, and each
 -- module's records lie within the record rows.
-use Rattle.std.specs.Prelude.{◌≡◌, ℕ, ◌+◌, ◌-◌, ◌^◌, ◌<◌, ◌≤◌, Bool, true, false, not, ◌⊎◌, List, [], map, length, get_or, take, drop, is_ok, Some, None, Option, ◌≢◌, nat_lt, slice_index_or, refl}
-use Rattle.std.proofs.Common.{sym, ap, subst, ◌∙◌, inl, inr, arith}
+use Rattle.std.specs.Prelude.{◌≡◌, ℕ, ◌+◌, ◌-◌, ◌^◌, ◌<◌, ◌≤◌, true, false, not, List, [], map, length, get_or, take, drop, is_ok, Some, None, Option, ◌≢◌, nat_lt, slice_index_or}
+use Rattle.std.proofs.Common.{sym, ap, ◌∙◌, inl, inr, arith}
 use Rattle.std.proofs.lemmas.List.{get_or_past, get_or-map, length-map, length-take, length-drop, get_or-take, get_or-drop, get_or_default}
 use Rattle.std.proofs.lemmas.List.Sums.{sum_by_more, sum_by-take-le}
 use Rattle.std.proofs.lemmas.Bool.{not-false, eqb-true, ltb-true, cases_lt}
 use Rattle.faults.specs.declared.Refusal.TheVariants.{TooManyModules, TooManyRecords, FieldOutOfValues, WrongFirstRecord}
-use Rattle.faults.specs.Faults.{Verdict, refuse_if, and_then, each}
+use Rattle.faults.specs.Faults.{refuse_if, and_then, each}
 use Rattle.faults.proofs.Checks.{accepted_if, accepted_first, accepted_second, accepted_each}
 use Rattle.source.specs.declared.ImportRecord.{ImportRecord}
 use Rattle.source.specs.declared.ImportKind.TheVariants.{Import}

@@ -1,7 +1,6 @@
 // Row faults at each limit and one past it, and what opened rows answer.
 #![tactic(auto)]
 
-
 #[cfg(test)]
 mod tests {
     use faults::{Fault, Layer, Place, Refusal};

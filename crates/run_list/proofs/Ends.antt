@@ -1,6 +1,6 @@
 -- What a slice of a vector was written with is what the vector holds, and the first rows of a list are those of its front.
 -- Assumes nothing.
-use Rattle.std.proofs.Common.{◌≡◌, ℕ, ◌<◌, List, ◌++◌, length, take, drop, Ok, Err, Result, sym, refl, ap, ◌∙◌, subst, arith}
+use Rattle.std.proofs.Common.{◌≡◌, ℕ, ◌<◌, List, ◌++◌, length, take, drop, Ok, Err, Result, sym, ◌∙◌, subst, arith}
 use Rattle.std.proofs.lemmas.List.{take_all, take-append-le, get_or-take}
 use Rattle.std.specs.Result.{result_unwrap_or}
 use Rattle.faults.specs.declared.Fault.{Fault}

@@ -2,7 +2,7 @@
 --
 --   Small     no more rows than the limits allow
 --   Settles   where finish was accepted, the marks and wrappers are those of the settled link
-use Rattle.std.specs.Prelude.{ℕ, ◌≤◌, length, vec_items}
+use Rattle.std.specs.Prelude.{◌≤◌, length, vec_items}
 use Rattle.source.specs.Meaning.{Meaning}
 use Rattle.source.specs.Numbers.{module_limit, record_limit}
 use Rattle.marks.specs.declared.options.LinkOptions.{LinkOptions}

@@ -1,5 +1,5 @@
 -- What stands after so many sweeps.
-use Rattle.std.proofs.Common.{◌≡◌, ℕ, zero, ◌+◌, ◌<◌, ◌≤◌, Bool, false, List, length, get_or, refl, ◌∙◌, subst, arith}
+use Rattle.std.proofs.Common.{◌≡◌, ℕ, ◌+◌, ◌<◌, ◌≤◌, Bool, false, List, length, get_or, refl, ◌∙◌, subst, arith}
 use Rattle.spread.specs.declared.arrow.Arrow.{Arrow}
 use Rattle.spread.specs.Leads.{Leads, here, along, Goes, AllInside, no_arrow}
 use Rattle.spread.specs.Spread.{Spread, one}

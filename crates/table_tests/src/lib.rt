@@ -1,7 +1,6 @@
 // The text form goes both ways: what a table's source writes reads as the same rows.
 #![tactic(auto)]
 
-
 #[cfg(test)]
 mod tests {
     use row_source::RowSource;

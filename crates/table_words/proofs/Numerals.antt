@@ -1,12 +1,11 @@
 -- What a number's and a span's text are read as. Assumes nothing.
-use Rattle.std.proofs.Common.{◌≡◌, ℕ, ◌^◌, ◌<◌, Bool, true, false, cond, eqb, List, [], ◌∷◌, ◌++◌, length, get_or, drop, Some, None, Ok, Err, Option, Result, sym, refl, ap, ◌∙◌, subst, arith, lit<, Bor, MatchOption}
+use Rattle.std.proofs.Common.{◌≡◌, ℕ, ◌^◌, ◌<◌, Bool, cond, List, ◌∷◌, ◌++◌, length, get_or, drop, Some, None, Ok, Err, Option, Result, ap, subst, arith, lit<, Bor, MatchOption}
 use Rattle.std.proofs.lemmas.Str.Parse.{digit_at}
-use Rattle.std.proofs.lemmas.Str.Pattern.{IsSplitOnceResult, split_after, split_parts, strip_prefix_char, starts_char}
-use Rattle.std.proofs.lemmas.Bool.{ne_eqb, false≢true}
+use Rattle.std.proofs.lemmas.Str.Pattern.{IsSplitOnceResult, split_after}
+use Rattle.std.proofs.lemmas.Bool.{ne_eqb}
 use Rattle.std.specs.Str.Parse.{IsNumeral, ParsesUnsigned, without_leading_plus, digits_value}
 use Rattle.std.specs.Result.{result_ok}
-use Rattle.source.specs.declared.Span.{Span}
-use Rattle.table_words.specs.Numbers.{Numbered, Spanned}
+use Rattle.table_words.specs.Numbers.{Numbered}
 
 unsigned : (text : List ℕ) → (get_or text 0 0 ≡ 43 → ⊥) → without_leading_plus text ≡ text
 unsigned text ne = ap (λ (b : Bool). drop (cond b 1 0) text) (ne_eqb (get_or text 0 0) 43 ne)

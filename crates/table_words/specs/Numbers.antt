@@ -2,7 +2,7 @@
 --
 --   Numbered   what a text is read as: the number that its decimal digits write, where that is below 2^32, else none
 --   Spanned    what a text is read as: the span of two such numbers with `..` between them, where it is one
-use Rattle.std.specs.Prelude.{◌≡◌, ℕ, ◌^◌, ◌<◌, ◌≤◌, List, ◌++◌, Some, None, codes, Option}
+use Rattle.std.specs.Prelude.{◌≡◌, ℕ, ◌^◌, ◌<◌, List, ◌++◌, Some, None, codes, Option}
 use Rattle.std.specs.Str.Parse.{IsNumeral, digits_value}
 use Rattle.source.specs.declared.Span.{Span}
 

@@ -1,14 +1,13 @@
 -- Where the imports of a module stand among the arrows of all modules, by where each module's end. Assumes nothing.
 use Rattle.std.proofs.Common.{◌≡◌, ℕ, zero, suc, ◌+◌, ◌-◌, ◌<◌, ◌≤◌, List, ◌∷◌, ◌++◌, length, get_or, take, drop, sym, refl, ap, ◌∙◌, subst, add-one, arith}
 use Rattle.std.proofs.ByRecursion.{All-get_or}
-use Rattle.std.proofs.lemmas.List.{take_more, take_all, take-append-drop, drop_more, length-append, length-take-le, get_or_append_left, get_or-append-add, get_or-take, get_or-map, flat_map_more}
-use Rattle.std.specs.List.{flat_map}
-use Rattle.source.specs.Meaning.{Meaning, Proper, Scanned, count_of, scanned_at, past_modules}
+use Rattle.std.proofs.lemmas.List.{drop_more, length-append, length-take-le, get_or_append_left, get_or-append-add, get_or-take, get_or-map}
+use Rattle.source.specs.Meaning.{Meaning, Proper, count_of}
 use Rattle.spread.specs.declared.arrow.Arrow.{Arrow}
 use Rattle.spread.specs.Leads.{no_arrow}
 use Rattle.ways.specs.Ways.{Targets}
 use Rattle.tla.proofs.Targets.{imports_inside}
-use Rattle.tla.specs.Search.{imports_in, imports_of, imports_before}
+use Rattle.tla.specs.Search.{imports_of, imports_before}
 use Rattle.tla.specs.Once.{start_of, LaidByEnds}
 use Rattle.tla.proofs.Segments.{before_all, after, before_more, before_fits}
 

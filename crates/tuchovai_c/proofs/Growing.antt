@@ -1,6 +1,6 @@
 -- One more row: what the bytes so far come to.
 use Rattle.std.proofs.Common.{◌≡◌, ℕ, ◌+◌, ◌<◌, List, [], ◌∷◌, ◌++◌, map, length, get_or, take, sym, ap, ◌∙◌}
-use Rattle.std.proofs.lemmas.List.{append-nil, append_assoc, take_more, take_all, map_push}
+use Rattle.std.proofs.lemmas.List.{append-nil, append_assoc, take_more, map_push}
 use Rattle.card.specs.Bytes.{flat}
 
 flat_push : (bs : List (List ℕ)) (b : List ℕ) → flat (bs ++ b ∷ []) ≡ flat bs ++ b

@@ -4,7 +4,7 @@
 --   table_length   how many bytes the table has
 --   head_bytes     how many rows of each kind there are, and the table's length
 --   table_bytes    the head, then the rows of each kind
-use Rattle.std.specs.Prelude.{ℕ, ◌+◌, ◌*◌, ◌/◌, ◌%◌, List, [], ◌∷◌, ◌++◌, map, length}
+use Rattle.std.specs.Prelude.{ℕ, ◌+◌, ◌*◌, ◌/◌, ◌%◌, List, ◌∷◌, ◌++◌, map, length}
 use Rattle.source.specs.Numbers.{exports_number}
 use Rattle.marks.specs.declared.rows.AwaitRow.{AwaitRow}
 use Rattle.marks.specs.declared.rows.MarkRow.{MarkRow}

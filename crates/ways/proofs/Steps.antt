@@ -1,6 +1,6 @@
 -- The steps of each way are the relations on records that passes are stated in, and what a yes comes from along them.
 -- Assumes nothing.
-use Rattle.std.proofs.Common.{◌≡◌, ℕ, ◌<◌, Bool, true, false, not, eqb, ◌⊎◌, ◌↔◌, List, length, sym, refl, ap, ◌∙◌, subst, inl, inr, arith}
+use Rattle.std.proofs.Common.{◌≡◌, ℕ, ◌<◌, true, ◌⊎◌, List, length, refl, ap, inl, inr, arith}
 use Rattle.std.proofs.lemmas.Bool.{not-true, eqb-false, ne_eqb, not_from_false}
 use Rattle.source.specs.declared.ImportKind.{ImportKind}
 use Rattle.source.specs.declared.ImportKind.TheVariants.{Import, Require, DynamicImport, AtImport, UrlImport, NewUrl, HotAccept}
@@ -8,13 +8,12 @@ use Rattle.source.specs.Meaning.{Meaning, record_at}
 use Rattle.marks.specs.Records.{Points, Imports, LeadsOn, Leads}
 use Rattle.marks.specs.Records as records
 use Rattle.marks.specs.Passes.{Brings}
-use Rattle.marks.proofs.Records.{leads_as}
 use Rattle.spread.specs.declared.yes_no.YesNo.{YesNo}
 use Rattle.spread.specs.Kinds.{plain_no, either}
 use Rattle.spread.proofs.YesNos.{yes_from, yes_to}
 use Rattle.ways.specs.declared.Way.{Way}
 use Rattle.ways.specs.declared.Way.TheVariants.{Stars, Wrappers, Awaits, Entries}
-use Rattle.ways.specs.Ways.{is_import, brings, followed, Leaving, Step, Leading, Carried}
+use Rattle.ways.specs.Ways.{is_import, brings, Step, Leading, Carried}
 use Rattle.ways.specs.Targets.{flag}
 
 module _ (w : Meaning) (a b : ℕ) where

@@ -1,16 +1,16 @@
 -- Rows of arrows lead just where the records do that they are copied from. Assumes nothing.
-use Rattle.std.proofs.Common.{◌≡◌, ℕ, ◌+◌, ◌-◌, ◌<◌, ◌≤◌, Bool, true, false, ◌↔◌, List, length, get_or, take, Ok, Err, sym, refl, ap, ◌∙◌, subst, arith}
+use Rattle.std.proofs.Common.{◌≡◌, ℕ, ◌<◌, ◌≤◌, Bool, true, false, ◌↔◌, List, length, get_or, take, Ok, Err, sym, refl, ap, ◌∙◌, subst, arith}
 use Rattle.std.proofs.lemmas.List.{get_or-take, length-take-le}
 use Rattle.source.specs.Meaning.{Meaning, count_of}
 use Rattle.marks.specs.Records.{Leads, here, along}
-use Rattle.marks.proofs.Records.{leads_back, leads_as, leads_first, normal_below}
+use Rattle.marks.proofs.Records.{leads_back, leads_as, normal_below}
 use Rattle.spread.specs.declared.arrow.Arrow.{Arrow}
 use Rattle.spread.specs.Leads.{no_arrow, Goes, Inside, AllInside}
 use Rattle.spread.specs.Leads as arrows
 use Rattle.spread.specs.Spread.{Spread, Leaves}
 use Rattle.faults.specs.Faults.{Verdict}
 use Rattle.ways.specs.declared.Way.{Way}
-use Rattle.ways.specs.Ways.{Step, against, led, Leading, turned, drawn, Targets, Copied}
+use Rattle.ways.specs.Ways.{Step, against, led, Leading, turned, Targets, Copied}
 
 -- arrows' own relation, as one of ours
 from_arrows : {rows : List Arrow} {q p : ℕ} → arrows.Leads rows q p → Leads (Goes rows) q p

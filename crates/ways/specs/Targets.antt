@@ -7,7 +7,7 @@
 --   PointedAt     flags are raised at the targets of records that are picked, and nowhere else
 --   Cleared       the flags of the first n modules are no
 --   Filled        the flags of the first n modules are yes exactly where P holds
-use Rattle.std.specs.Prelude.{◌≡◌, ℕ, ◌<◌, ◌≤◌, Bool, true, false, not, ◌&&◌, ◌||◌, ◌↔◌, List, length, ◌==◌, slice_index_or}
+use Rattle.std.specs.Prelude.{◌≡◌, ℕ, ◌<◌, Bool, true, false, not, ◌&&◌, ◌||◌, ◌↔◌, List, length, ◌==◌, slice_index_or}
 use Rattle.source.specs.declared.ImportKind.{ImportKind}
 use Rattle.source.specs.declared.ImportKind.TheVariants.{Import, Require, DynamicImport, AtImport, UrlImport, NewUrl, HotAccept}
 use Rattle.source.specs.declared.ImportRecord.{ImportRecord}

@@ -1,10 +1,9 @@
 -- Wrapper rows, one module more. Assumes nothing.
-use Rattle.std.proofs.Common.{◌≡◌, ℕ, zero, suc, ◌+◌, ◌-◌, ◌<◌, ◌≤◌, Bool, true, false, cond, List, [], ◌∷◌, ◌++◌, length, get_or, drop, set, sym, refl, ap, ◌∙◌, subst, inl, inr, add-one, arith}
-use Rattle.std.proofs.lemmas.List.{append-nil, append_assoc, length-append, length_push, set-append_right, drop_more, length-drop}
+use Rattle.std.proofs.Common.{◌≡◌, ℕ, zero, suc, ◌+◌, ◌-◌, ◌<◌, ◌≤◌, Bool, true, false, cond, List, [], ◌∷◌, ◌++◌, length, drop, set, sym, ap, ◌∙◌, subst, add-one, arith}
+use Rattle.std.proofs.lemmas.List.{append-nil, append_assoc, length-append, length_push, set-append_right, drop_more}
 use Rattle.source.specs.Meaning.{Meaning, module_at}
 use Rattle.marks.specs.declared.options.LinkOptions.{LinkOptions}
 use Rattle.marks.specs.declared.rows.MarkRow.{MarkRow}
-use Rattle.marks.specs.declared.rows.WrapperRow.{WrapperRow}
 use Rattle.marks.specs.Rows.{row_at}
 use Rattle.wrappers.specs.Wrappers.{ends_wrapped, wrapper_row, wrapper_at, wrapper_rows}
 

@@ -1,25 +1,24 @@
 -- The parts of the wrap pass together do what it promises. Assumes nothing.
-use Rattle.std.proofs.Common.{◌≡◌, ℕ, ◌<◌, ◌≤◌, Bool, true, false, not, ◌&&◌, ◌||◌, eqb, ◌⊎◌, ◌↔◌, List, length, sym, refl, ap, ◌∙◌, subst, inl, inr, arith}
+use Rattle.std.proofs.Common.{◌≡◌, ℕ, ◌<◌, ◌≤◌, true, ◌||◌, ◌↔◌, List, length, sym, refl, ap, ◌∙◌, inl, inr, arith}
 use mathlib.Core.Bool.{false≢true}
 use Rattle.std.proofs.lemmas.Bool.{and_parts, and_from, or_cases, or_left, or_right, not-true, not_from_false, eqb-false, ne_eqb}
-use Rattle.source.specs.declared.ImportKind.{ImportKind}
 use Rattle.source.specs.declared.ImportKind.TheVariants.{Require}
-use Rattle.source.specs.Meaning.{Meaning, count_of, module_at, record_at}
+use Rattle.source.specs.Meaning.{Meaning, count_of, module_at}
 use Rattle.marks.specs.declared.options.LinkOptions.{LinkOptions}
 use Rattle.marks.specs.declared.rows.MarkRow.{MarkRow}
 use Rattle.marks.specs.Passes.{Did, WrapDid, Reached, WrapStarts, CommonJsTarget, RequiredBy}
 use Rattle.marks.specs.Passes as passes
-use Rattle.marks.specs.Records.{NormalAt, ExternalAt, Points, Mentions, Requires, LeadsOn, Leads, here, along}
+use Rattle.marks.specs.Records.{NormalAt, Mentions, Requires, LeadsOn, Leads, here, along}
 use Rattle.marks.specs.Rules.{agrees, is_wrapped, read_wrap}
-use Rattle.marks.specs.Rows.{row_at, kind_in, wrapped_in, Raised, Written}
+use Rattle.marks.specs.Rows.{row_at, wrapped_in, Written}
 use Rattle.marks.proofs.Records.{leads_as, normal_below, external_normal}
 use Rattle.marks.proofs.Writes.{mark_agrees, mark_wrapped, raised_stays, raised_or}
 use Rattle.spread.specs.declared.yes_no.YesNo.{YesNo}
 use Rattle.spread.specs.Kinds.{plain_no, either}
 use Rattle.ways.specs.declared.Way.TheVariants.{Wrappers}
 use Rattle.ways.specs.declared.targets.Pick.TheVariants.{Every, Required}
-use Rattle.ways.specs.Targets.{flag, is_normal, is_require, picked, Filled, Cleared, PointedAt, Picked}
-use Rattle.ways.specs.Ways.{Targets, Carried}
+use Rattle.ways.specs.Targets.{flag, is_normal, is_require, Filled, Cleared, PointedAt, Picked}
+use Rattle.ways.specs.Ways.{Carried}
 use Rattle.ways.proofs.Steps.{wrappers_to, wrappers_from, carried_from, carried_to}
 use Rattle.wrapping.specs.Wraps.{MayWrap, is_common, Starts, WrappedRow}
 use Rattle.wrapping.proofs.Tests.{common_is, require_is, module_cases, normal_is}

@@ -1,9 +1,7 @@
-use Rattle.std.proofs.Common.{◌≡◌, ℕ, ◌+◌, ◌<◌, ◌≤◌, true, List, length, set, sum_by, sym, refl, ap, ◌∙◌, subst, arith, rules}
+use Rattle.std.proofs.Common.{ℕ, ◌+◌, ◌<◌, List, length, set, sym, ap, ◌∙◌, subst, arith, rules}
 use Rattle.std.proofs.lemmas.List.Sums.{sum_by_more, sum_by-take-le}
 use Rattle.std.proofs.lemmas.Bool.{both_ways}
-use Rattle.source.specs.declared.ImportKind.{ImportKind}
-use Rattle.source.specs.Meaning.{count_of, records_in, record_at, past_modules}
-use Rattle.marks.specs.Records.{NormalAt}
+use Rattle.source.specs.Meaning.{count_of, records_in, past_modules}
 use Rattle.marks.proofs.Records.{none_some, some_is, external_normal, look_points, look_target}
 use Rattle.spread.specs.declared.arrow.Arrow.{Arrow}
 use Rattle.ways.specs.Ways.{drawn, CopiedUpTo}

@@ -1,5 +1,4 @@
-use Rattle.std.proofs.Common.{◌≡◌, ◌-◌, ◌≤◌, length, take, arith}
-use Rattle.source.specs.Meaning.{count_of}
+use Rattle.std.proofs.Common.{◌≡◌, ◌-◌, length, take, arith}
 use Rattle.ways.proofs.Turns.{leads_just, all_inside, spread_accepted}
 use Rattle.ways.proofs.spread_along.Goals as goal
 

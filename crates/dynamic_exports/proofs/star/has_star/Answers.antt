@@ -1,4 +1,4 @@
-use Rattle.std.proofs.Common.{◌≡◌, ◌<◌, arith}
+use Rattle.std.proofs.Common.{arith}
 use mathlib.Core.Bool.{false≢true}
 use Rattle.marks.proofs.Records.{star_in}
 use Rattle.dynamic_exports.proofs.star.has_star.Goals as goal

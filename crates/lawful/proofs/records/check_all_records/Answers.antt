@@ -1,6 +1,5 @@
-use Rattle.std.proofs.Common.{◌≡◌, ◌<◌, Err, sym, ap, ◌∙◌, arith}
+use Rattle.std.proofs.Common.{◌<◌, Err, sym, ap, ◌∙◌, arith}
 use Rattle.std.proofs.lemmas.Result.{err_from_is_err_and}
-use Rattle.source.specs.declared.Module.{Module}
 use Rattle.source.specs.Meaning.{count_of, scanned_at, past_modules}
 use Rattle.faults.proofs.Checks.{each_passes, each_refuses, each_done}
 use Rattle.lawful.specs.Lawful.{scanned_verdict, module_verdict}

@@ -1,4 +1,4 @@
-use Rattle.std.proofs.Common.{◌≡◌, ◌+◌, get_or, take, Err, sym, ap, ◌∙◌, arith}
+use Rattle.std.proofs.Common.{get_or, Err, sym, ap, ◌∙◌, arith}
 use Rattle.std.proofs.lemmas.List.{take_all}
 use Rattle.std.proofs.lemmas.List.Sums.{sum_by_more}
 use Rattle.faults.proofs.Checks.{each_passes, each_refuses, each_done}

@@ -1,4 +1,4 @@
-use Rattle.std.proofs.Common.{◌≡◌, get_or, Err, sym, ap, ◌∙◌}
+use Rattle.std.proofs.Common.{get_or, Err, sym, ap, ◌∙◌}
 use Rattle.faults.proofs.Checks.{each_passes, each_refuses, each_done}
 use Rattle.row_source.specs.Checks.{record_row_verdict}
 use Rattle.row_source.specs.Propers.{zero_record}

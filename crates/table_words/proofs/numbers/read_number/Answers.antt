@@ -1,4 +1,4 @@
-use Rattle.std.proofs.Common.{◌≡◌, ℕ, Option, sym, ◌∙◌, subst, lit<}
+use Rattle.std.proofs.Common.{ℕ, Option, sym, subst, lit<}
 use Rattle.std.proofs.lemmas.Str.Pattern.{starts_char}
 use Rattle.std.proofs.lemmas.Bool.{both_ways}
 use Rattle.table_words.specs.Numbers.{Numbered}

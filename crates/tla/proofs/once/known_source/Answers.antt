@@ -1,4 +1,4 @@
-use Rattle.std.proofs.Common.{Some, subst, arith}
+use Rattle.std.proofs.Common.{subst, arith}
 use Rattle.tla.specs.Search.{SourceOf, Told}
 use Rattle.tla.specs.Once.{WaitsFor}
 use Rattle.tla.proofs.Knowns.{known_more}

@@ -1,4 +1,4 @@
-use Rattle.std.proofs.Common.{List, ◌++◌, map, is_ok, vec_items, ap, ◌∙◌, arith}
+use Rattle.std.proofs.Common.{◌++◌, map, is_ok, vec_items, ap, ◌∙◌}
 use Rattle.std.proofs.lemmas.List.{take_all}
 use Rattle.std.proofs.ResultArms.{chosen}
 use Rattle.card.specs.Bytes.{flat}

@@ -1,4 +1,4 @@
-use Rattle.std.proofs.Common.{◌≡◌, ℕ, List, [], ◌++◌, is_ok, vec_items, ap, ◌∙◌}
+use Rattle.std.proofs.Common.{is_ok, ap}
 use Rattle.std.proofs.ResultArms.{chosen}
 use Rattle.tuchovai_c.proofs.Growing.{four_parts}
 use Rattle.tuchovai_c.proofs.table.table_of.Goals as goal

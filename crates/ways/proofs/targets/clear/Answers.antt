@@ -1,8 +1,7 @@
-use Rattle.std.proofs.Common.{◌≡◌, ◌<◌, ◌≢◌, length, set, ap, ◌∙◌, arith, below_more}
+use Rattle.std.proofs.Common.{◌<◌, ◌≢◌, length, ap, ◌∙◌, arith, below_more}
 use Rattle.std.proofs.lemmas.List.{get_or-set_same, get_or-set_other}
 use Rattle.spread.specs.declared.yes_no.YesNo.{YesNo}
 use Rattle.spread.specs.Kinds.{plain_no}
-use Rattle.source.specs.Meaning.{count_of}
 use Rattle.ways.proofs.targets.clear.Goals as goal
 
 pub loop-m-preserved : goal.loop-m-preserved

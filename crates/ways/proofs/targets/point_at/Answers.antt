@@ -1,11 +1,11 @@
-use Rattle.std.proofs.Common.{◌≡◌, ℕ, ◌+◌, ◌<◌, ◌≤◌, true, false, List, length, set, sym, refl, ap, ◌∙◌, subst, arith}
+use Rattle.std.proofs.Common.{◌≡◌, ℕ, ◌<◌, true, List, length, sym, ◌∙◌, subst, arith}
 use Rattle.std.proofs.lemmas.Bool.{both_ways}
-use Rattle.source.specs.Meaning.{count_of, records_in, record_at}
+use Rattle.source.specs.Meaning.{record_at}
 use Rattle.marks.specs.Rows.{Raised}
 use Rattle.marks.proofs.Records.{none_some, some_is, external_normal, normal_below, points_in, look_points, look_target}
 use Rattle.spread.specs.declared.yes_no.YesNo.{YesNo}
 use Rattle.ways.specs.Targets.{flag, picked, Picked}
-use Rattle.ways.proofs.Sweeps.{Marked, Before, Only, raised_same, raised_as, marked_none, marked_start, marked_step, marked_join, marked_skip, marked_all}
+use Rattle.ways.proofs.Sweeps.{raised_same, raised_as, marked_step, marked_join, marked_skip, marked_all}
 use Rattle.ways.proofs.Pointed.{raised_at}
 use Rattle.ways.proofs.targets.point_at.Goals as goal
 use Rattle.ways.proofs.targets.point_at.Goals.{then-picks, else-picks}

@@ -1,4 +1,3 @@
-use Rattle.std.proofs.Common.{◌≡◌, length}
 use Rattle.ways.specs.Targets.{flag, Picked}
 use Rattle.ways.proofs.Sweeps.{Marked, Before, Only}
 use Rattle.ways.proofs.targets.point_at.Given as goal

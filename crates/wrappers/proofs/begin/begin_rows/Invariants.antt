@@ -1,5 +1,4 @@
 use Rattle.std.proofs.Common.{◌≡◌}
-use Rattle.source.specs.declared.ExportsKind.TheVariants.{None as Unknown}
 use Rattle.marks.specs.Kinds.{scanned_kind}
 use Rattle.marks.specs.Rows.{Written}
 use Rattle.marks.specs.Rules.{cleared}

@@ -1,4 +1,4 @@
-use Rattle.std.proofs.Common.{◌≡◌, ℕ, ◌+◌, ◌<◌, true, List, [], ◌∷◌, ◌++◌, length, drop, set, sym, ap, ◌∙◌, arith, rules}
+use Rattle.std.proofs.Common.{◌≡◌, ℕ, ◌+◌, ◌<◌, true, List, ◌++◌, length, drop, set, sym, ap, ◌∙◌, arith, rules}
 use Rattle.source.specs.declared.Module.{Module}
 use Rattle.source.specs.Meaning.{count_of, module_at}
 use Rattle.marks.specs.declared.rows.WrapperRow.{WrapperRow}

@@ -1,4 +1,4 @@
-use Rattle.std.proofs.Common.{◌≡◌, ◌≤◌, ◌++◌, length, drop}
+use Rattle.std.proofs.Common.{◌≡◌, ◌++◌, length, drop}
 use Rattle.wrappers.specs.Wrappers.{wrapper_rows}
 use Rattle.wrappers.proofs.finish.write_wrappers.Given as goal
 

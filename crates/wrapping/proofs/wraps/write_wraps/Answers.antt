@@ -1,4 +1,4 @@
-use Rattle.std.proofs.Common.{◌≡◌, ◌<◌, Bool, ◌&&◌, ◌||◌, length, ap, ◌∙◌, arith}
+use Rattle.std.proofs.Common.{◌<◌, Bool, ◌&&◌, ◌||◌, length, ap, ◌∙◌, arith}
 use Rattle.source.specs.declared.ExportsKind.{ExportsKind}
 use Rattle.marks.specs.declared.rows.MarkRow.{MarkRow}
 use Rattle.marks.specs.Marks.{read_row, marked_row, with_required}

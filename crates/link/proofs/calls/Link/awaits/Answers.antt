@@ -3,10 +3,9 @@ use Rattle.std.proofs.lemmas.Bool.{le-ltb}
 use Rattle.faults.specs.declared.Refusal.TheVariants.{ResultsTooShort}
 use Rattle.faults.specs.Faults.{Verdict}
 use Rattle.faults.proofs.Checks.{passes}
-use Rattle.source.specs.Meaning.{count_of}
 use Rattle.lawful.specs.declared.check.Lent.{Lent}
 use Rattle.lawful.specs.Lawful.{link_fault}
-use Rattle.lawful.proofs.Told.{small, few, marked, worked, targeted}
+use Rattle.lawful.proofs.Told.{small, few, worked, targeted}
 use Rattle.tla.specs.Rows.{RowCount}
 use Rattle.link.specs.declared.stage.Call.TheVariants.{Await}
 use Rattle.link.specs.Calls.{call_verdict, counted, AwaitAnswer}

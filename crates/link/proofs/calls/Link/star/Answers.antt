@@ -1,4 +1,4 @@
-use Rattle.std.proofs.Common.{◌≡◌, ℕ, min, length, Some, Ok, sym, refl, ap, ◌∙◌, arith}
+use Rattle.std.proofs.Common.{ℕ, length, Some, Ok, sym, refl, ap, ◌∙◌, arith}
 use Rattle.lawful.specs.declared.check.Lent.{Lent}
 use Rattle.lawful.proofs.Told.{small, marked, worked, targeted}
 use Rattle.link.specs.declared.stage.Call.TheVariants.{Star}

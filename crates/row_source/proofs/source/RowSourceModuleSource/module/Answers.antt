@@ -1,4 +1,4 @@
-use Rattle.std.proofs.Common.{◌≡◌, sym, ap}
+use Rattle.std.proofs.Common.{sym, ap}
 use Rattle.source.specs.Meaning.{Scanned}
 use Rattle.row_source.specs.Propers.{scanned_past, scanned_in}
 use Rattle.row_source.proofs.source.RowSourceModuleSource.module.Goals as goal
