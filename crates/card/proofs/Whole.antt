@@ -1,6 +1,6 @@
 -- A card and its meaning, there and back.
 use Rattle.std.proofs.Common.{◌≡◌, ℕ, zero, suc, ◌+◌, ◌*◌, ◌<◌, ◌≤◌, Bool, true, false, cond, ltb, List, [], ◌∷◌, ◌++◌, map, length, get_or, take, drop, is_ok, sym, refl, ap, ◌∙◌, subst, ⊎_elim, add-zero, mul-zero, mul-suc, arith}
-use Rattle.std.specs.List.{AllByRecursion as All}
+use Rattle.std.specs.List.{AllByRecursion}
 use Rattle.std.proofs.lemmas.List.{append-nil, append_assoc, length-append, length-map, length-take, length-take-le, length-drop, take-append-drop, take_at, drop_at, drop-drop, drop_all, drop_more, get_or-take, get_or-drop, get_or_past}
 use Rattle.std.proofs.ByRecursion.{All-append, All-take, All-drop}
 use Rattle.std.proofs.lemmas.Bool.{cases_lt, cond-true}
@@ -35,7 +35,7 @@ flat_cut size (suc n) bs h =
 abbrev Sized : ℕ → List ℕ → Type 0
 Sized size b = length b ≡ size
 
-cut_flat : (size : ℕ) (bs : List (List ℕ)) (rest : List ℕ) → All (Sized size) bs → cut size (length bs) (flat bs ++ rest) ≡ bs
+cut_flat : (size : ℕ) (bs : List (List ℕ)) (rest : List ℕ) → AllByRecursion (Sized size) bs → cut size (length bs) (flat bs ++ rest) ≡ bs
 cut_flat size [] rest h = refl
 cut_flat size (b ∷ bs) rest (here, more) =
     let split = append_assoc b (flat bs) rest in
@@ -44,7 +44,7 @@ cut_flat size (b ∷ bs) rest (here, more) =
     ∙ ap (λ (x : List ℕ). b ∷ cut size (length bs) x) (drop_at b (flat bs ++ rest) size here)
     ∙ ap (λ (x : List (List ℕ)). b ∷ x) (cut_flat size bs rest more)
 
-length_flat : (size : ℕ) (bs : List (List ℕ)) → All (Sized size) bs → length (flat bs) ≡ size * length bs
+length_flat : (size : ℕ) (bs : List (List ℕ)) → AllByRecursion (Sized size) bs → length (flat bs) ≡ size * length bs
 length_flat size [] h = sym (mul-zero size)
 length_flat size (b ∷ bs) (here, more) =
     length-append b (flat bs) ∙ omega (arith, length_flat size bs more, mul-suc size (length bs))
@@ -63,7 +63,7 @@ bytes_take n bs h k = ⊎_elim
     (λ (ge : n ≤ k). let past : length (take n bs) ≤ k = simp length-take (omega arith) in rw (get_or_past (take n bs) k 0 past) (omega arith))
     (cases_lt k n)
 
-pieces : (size n : ℕ) (bs : List ℕ) → size * n ≤ length bs → Bytes bs → All (Piece size) (cut size n bs)
+pieces : (size n : ℕ) (bs : List ℕ) → size * n ≤ length bs → Bytes bs → AllByRecursion (Piece size) (cut size n bs)
 pieces size zero bs h b = tt
 pieces size (suc n) bs h b =
     let room : size + size * n ≤ length bs = omega (arith, mul-suc size n) in
@@ -81,7 +81,7 @@ module_back next b p right =
     ∙ head_encoded 24 2 b (omega (arith, p.0)) p.1 right.head
 
 module _ (rs : List ImportRecord) (end : ℕ) (sized : length rs ≡ end) where
-  modules_back : (next : ℕ) (bs : List (List ℕ)) → All (Piece 24) bs → Chained next bs end → encode_modules next (map (block_scanned rs) bs) ≡ bs
+  modules_back : (next : ℕ) (bs : List (List ℕ)) → AllByRecursion (Piece 24) bs → Chained next bs end → encode_modules next (map (block_scanned rs) bs) ≡ bs
   modules_back next [] ps h = refl
   modules_back next (b ∷ bs) (p, ps) (here, rest) =
       let f = fields_of b in
@@ -103,7 +103,7 @@ record_back b p right =
     ap (block 18 3) (record_encoded (fields_of b) (fields_length 14 b p.0) (bytes_drop 4 b p.1) right.fields)
     ∙ head_encoded 18 3 b (omega (arith, p.0)) p.1 right.head
 
-records_back : (bs : List (List ℕ)) → All (Piece 18) bs → All RecordBlock bs → map encode_record (map block_record bs) ≡ bs
+records_back : (bs : List (List ℕ)) → AllByRecursion (Piece 18) bs → AllByRecursion RecordBlock bs → map encode_record (map block_record bs) ≡ bs
 records_back [] ps h = refl
 records_back (b ∷ bs) (p, ps) (here, rest) =
     ap (λ (x : List ℕ). x ∷ map encode_record (map block_record bs)) (record_back b p here)
@@ -188,11 +188,11 @@ record_fits b bytes =
       end = u32_fits f fb 10;
     }
 
-records_fit : (bs : List (List ℕ)) → All (Piece 18) bs → All RecordFits (map block_record bs)
+records_fit : (bs : List (List ℕ)) → AllByRecursion (Piece 18) bs → AllByRecursion RecordFits (map block_record bs)
 records_fit [] ps = tt
 records_fit (b ∷ bs) (p, ps) = (record_fits b p.1, records_fit bs ps)
 
-modules_fit : (rs : List ImportRecord) → All RecordFits rs → (next end : ℕ) (bs : List (List ℕ)) → All (Piece 24) bs → Chained next bs end → All ModuleFits (map (block_scanned rs) bs)
+modules_fit : (rs : List ImportRecord) → AllByRecursion RecordFits rs → (next end : ℕ) (bs : List (List ℕ)) → AllByRecursion (Piece 24) bs → Chained next bs end → AllByRecursion ModuleFits (map (block_scanned rs) bs)
 modules_fit rs all next end [] ps h = tt
 modules_fit rs all next end (b ∷ bs) (p, ps) (here, rest) =
     let f = fields_of b in
@@ -227,11 +227,11 @@ module _ (first count total : ℕ) (few : total ≤ 32768) (h : first + count �
   count_fits : Fits32 count
   count_fits = omega arith
 
-sized_modules : (first : ℕ) (ss : List Scanned) → All (Sized 24) (encode_modules first ss)
+sized_modules : (first : ℕ) (ss : List Scanned) → AllByRecursion (Sized 24) (encode_modules first ss)
 sized_modules first [] = tt
 sized_modules first (s ∷ ss) = (length_module_block s.described first (length s.records), sized_modules (first + length s.records) ss)
 
-sized_records : (rs : List ImportRecord) → All (Sized 18) (map encode_record rs)
+sized_records : (rs : List ImportRecord) → AllByRecursion (Sized 18) (map encode_record rs)
 sized_records [] = tt
 sized_records (r ∷ rs) = (length_record_block r, sized_records rs)
 
@@ -256,18 +256,18 @@ encode_length w =
     length-append (encode_head w) (ms ++ rs)
     ∙ omega (arith, head_length w, length-append ms rs, modules_length 0 w.modules, records_length (all_records w.modules))
 
-right_records : (rs : List ImportRecord) → All RecordBlock (map encode_record rs)
+right_records : (rs : List ImportRecord) → AllByRecursion RecordBlock (map encode_record rs)
 right_records [] = tt
 right_records (r ∷ rs) =
     (record { head = record_head_right (record_fields r); fields = ap record_wrong (fields_back 18 3 (record_fields r)) ∙ record_right r }, right_records rs)
 
-records_decoded : (rs : List ImportRecord) → All RecordFits rs → map block_record (map encode_record rs) ≡ rs
+records_decoded : (rs : List ImportRecord) → AllByRecursion RecordFits rs → map block_record (map encode_record rs) ≡ rs
 records_decoded [] h = refl
 records_decoded (r ∷ rs) (here, rest) =
     ap (λ (x : ImportRecord). x ∷ map block_record (map encode_record rs)) (ap record_of (fields_back 18 3 (record_fields r)) ∙ record_decoded r here)
     ∙ ap (λ (x : List ImportRecord). r ∷ x) (records_decoded rs rest)
 
-all_fit : (ss : List Scanned) → All ModuleFits ss → All RecordFits (all_records ss)
+all_fit : (ss : List Scanned) → AllByRecursion ModuleFits ss → AllByRecursion RecordFits (all_records ss)
 all_fit [] h = tt
 all_fit (s ∷ ss) (here, rest) = All-append RecordFits s.records (all_records ss) here.records (all_fit ss rest)
 
@@ -299,7 +299,7 @@ module _ (s : Scanned) (first : ℕ) (fits : ModuleFits s) (ff : Fits32 first) (
       same_scanned : (d d' : Module) (rs rs' : List ImportRecord) → d ≡ d' → rs ≡ rs' → ◌≡◌ {A = Scanned} (record { described = d; records = rs }) (record { described = d'; records = rs' })
       same_scanned d d' rs rs' ed er = cc
 
-chained_modules : (first total : ℕ) (ss : List Scanned) → total ≤ 32768 → first + length (all_records ss) ≡ total → All ModuleFits ss → Chained first (encode_modules first ss) total
+chained_modules : (first total : ℕ) (ss : List Scanned) → total ≤ 32768 → first + length (all_records ss) ≡ total → AllByRecursion ModuleFits ss → Chained first (encode_modules first ss) total
 chained_modules first total [] few e h = sym (add-zero first) ∙ e
 chained_modules first total (s ∷ ss) few e (here, rest) =
     let sum : length (all_records (s ∷ ss)) ≡ length s.records + length (all_records ss) = length-append s.records (all_records ss) in
@@ -310,7 +310,7 @@ chained_modules first total (s ∷ ss) few e (here, rest) =
           (chained_modules (first + length s.records) total ss few (omega arith) rest),
     )
 
-modules_decoded : (before : List ImportRecord) (first total : ℕ) (ss : List Scanned) → total ≤ 32768 → length before ≡ first → first + length (all_records ss) ≡ total → All ModuleFits ss → map (block_scanned (before ++ all_records ss)) (encode_modules first ss) ≡ ss
+modules_decoded : (before : List ImportRecord) (first total : ℕ) (ss : List Scanned) → total ≤ 32768 → length before ≡ first → first + length (all_records ss) ≡ total → AllByRecursion ModuleFits ss → map (block_scanned (before ++ all_records ss)) (encode_modules first ss) ≡ ss
 modules_decoded before first total [] few b e h = refl
 modules_decoded before first total (s ∷ ss) few b e (here, rest) =
     let sum : length (all_records (s ∷ ss)) ≡ length s.records + length (all_records ss) = length-append s.records (all_records ss) in
@@ -381,7 +381,7 @@ module _ (w : Meaning) (fits : Writable w) where
     size = omega (arith, encode_length w, written_count, written_records);
     modules = subst (λ (bs : List (List ℕ)). Chained 0 bs (record_count (encode w))) (sym written_modules)
         (chained_modules 0 (record_count (encode w)) w.modules (omega (arith, written_records, fits.few_records)) (omega (arith, written_records)) fits.modules);
-    records = subst (All RecordBlock) (sym written_record_blocks) (right_records every);
+    records = subst (AllByRecursion RecordBlock) (sym written_record_blocks) (right_records every);
   }
 
   pub decoded : card_meaning (encode w) ≡ w

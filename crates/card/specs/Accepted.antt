@@ -6,7 +6,7 @@
 --   RecordBlock    the block is a record's, with no wrong field
 --   Accepted       the head, the limits, the length, the module blocks and the record blocks are as they should be
 use Rattle.std.specs.Prelude.{◌≡◌, ℕ, ◌+◌, ◌≤◌, false, List, [], ◌∷◌, length}
-use Rattle.std.specs.List.{AllByRecursion as All}
+use Rattle.std.specs.List.{AllByRecursion}
 use Rattle.source.specs.Numbers.{module_limit, record_limit}
 use Rattle.card.specs.Fields.{first_of, count_of, module_wrong, record_wrong}
 use Rattle.card.specs.Cards.{fields_of, head_wrong, module_count, record_count, card_size, module_blocks, record_blocks}
@@ -30,4 +30,4 @@ pub record Accepted (bs : List ℕ) : Type 0 where
   pub few_records : record_count bs ≤ record_limit
   pub size : length bs ≡ card_size bs
   pub modules : Chained 0 (module_blocks bs) (record_count bs)
-  pub records : All RecordBlock (record_blocks bs)
+  pub records : AllByRecursion RecordBlock (record_blocks bs)

@@ -9,7 +9,7 @@
 --   card_proper                  the meaning of an accepted image is proper
 use Rattle.std.specs.Prelude.{◌≡◌, ℕ, zero, suc, ◌+◌, ◌-◌, ◌*◌, ◌^◌, ◌<◌, Bool, true, false, cond, not, ◌&&◌, List, [], ◌∷◌, map, length, take, drop, is_ok, Some, None, Ok, Err, Result, ◌==◌, nat_lt, slice_index_or, refl}
 use Rattle.std.proofs.Common.{sym, ap, subst, ◌∙◌, arith}
-use Rattle.std.specs.List.{AllByRecursion as All}
+use Rattle.std.specs.List.{AllByRecursion}
 use Rattle.std.proofs.ByRecursion.{All-take, All-drop}
 use Rattle.std.proofs.lemmas.Bool.{ltb-true, ltb-false, le-ltb, eqb-true, eq-eqb, not-false, or_parts}
 use Rattle.faults.specs.declared.Fault.{Fault}
@@ -81,14 +81,14 @@ chained_to m next (b ∷ bs) end (here, rest) =
     (ap (λ (t : Bool). refuse_if t (card_fault WrongFirstRecord m)) (equal_to (first_of (fields_of b)) next here.first))))
     ∙ chained_to (m + 1) (next + count_of (fields_of b)) bs end rest
 
-records_from : (start r : ℕ) (bs : List (List ℕ)) → records_verdict start r bs ≡ Ok tt → All RecordBlock bs
+records_from : (start r : ℕ) (bs : List (List ℕ)) → records_verdict start r bs ≡ Ok tt → AllByRecursion RecordBlock bs
 records_from start r [] e = tt
 records_from start r (b ∷ bs) e =
     let both = both_passed (record_verdict (start + 18 * r) b) (records_verdict start (r + 1) bs) e in
     let one = passed (head_wrong 18 3 b) _ _ both.0 in
     (record { head = one.0; fields = passed_if (record_wrong (fields_of b)) _ one.1 }, records_from start (r + 1) bs both.1)
 
-records_to : (start r : ℕ) (bs : List (List ℕ)) → All RecordBlock bs → records_verdict start r bs ≡ Ok tt
+records_to : (start r : ℕ) (bs : List (List ℕ)) → AllByRecursion RecordBlock bs → records_verdict start r bs ≡ Ok tt
 records_to start r [] e = refl
 records_to start r (b ∷ bs) (here, rest) =
     both_pass (record_verdict (start + 18 * r) b) (records_verdict start (r + 1) bs)
@@ -142,9 +142,9 @@ abbrev pub Resolved : ImportRecord → Type 0
 Resolved r = (t : ℕ) → r.target ≡ Some t → t < 2 ^ 32 - 1
 
 abbrev pub Sound : Scanned → Type 0
-Sound s = (s.described ≡ External → s.records ≡ []) × All Resolved s.records
+Sound s = (s.described ≡ External → s.records ≡ []) × AllByRecursion Resolved s.records
 
-at_any : {X : Type 0} (P : X → Type 0) (d : X) → P d → (xs : List X) → All P xs → (k : ℕ) → P (slice_index_or xs k d)
+at_any : {X : Type 0} (P : X → Type 0) (d : X) → P d → (xs : List X) → AllByRecursion P xs → (k : ℕ) → P (slice_index_or xs k d)
 at_any P d p [] all k = p
 at_any P d p (x ∷ xs) (here, rest) zero = here
 at_any P d p (x ∷ xs) (here, rest) (suc k) = at_any P d p xs rest k
@@ -152,7 +152,7 @@ at_any P d p (x ∷ xs) (here, rest) (suc k) = at_any P d p xs rest k
 past_resolved : Resolved past_records
 past_resolved t e = let z : ◌≡◌ {A = ℕ} 0 1 = cc in omega arith
 
-pub proper_from : (w : Meaning) → All Sound w.modules → Proper w
+pub proper_from : (w : Meaning) → AllByRecursion Sound w.modules → Proper w
 proper_from w all = record {
   blank = λ m. (sound m).0;
   targets = λ m. at_any Resolved past_records past_resolved (scanned_at w m).records (sound m).1;
@@ -164,7 +164,7 @@ pub target_resolved : (n t : ℕ) (b : Bool) → nat_lt n 4294967295 ≡ b → c
 target_resolved n t true e h = let same : n ≡ t = cc in omega (arith, ltb-true n 4294967295 e)
 target_resolved n t false e h = let z : ◌≡◌ {A = ℕ} 0 1 = cc in omega arith
 
-all_resolved : (bs : List (List ℕ)) → All Resolved (map block_record bs)
+all_resolved : (bs : List (List ℕ)) → AllByRecursion Resolved (map block_record bs)
 all_resolved [] = tt
 all_resolved (b ∷ bs) = (λ t. target_resolved (u32_le (fields_of b) 2) t (nat_lt (u32_le (fields_of b) 2) 4294967295) refl, all_resolved bs)
 
@@ -199,7 +199,7 @@ blank_scanned rs b w e =
     ap (λ (n : ℕ). take n (drop (first_of (fields_of b)) rs))
     (blank_at (fields_of b) 16 (external_is (is_external (fields_of b)) _ e) (right_from (fields_of b) w).count)
 
-all_sound : (rs : List ImportRecord) → All Resolved rs → (next end : ℕ) (bs : List (List ℕ)) → Chained next bs end → All Sound (map (block_scanned rs) bs)
+all_sound : (rs : List ImportRecord) → AllByRecursion Resolved rs → (next end : ℕ) (bs : List (List ℕ)) → Chained next bs end → AllByRecursion Sound (map (block_scanned rs) bs)
 all_sound rs all next end [] h = tt
 all_sound rs all next end (b ∷ bs) (here, rest) = (
   (blank_scanned rs b here.fields, All-take Resolved (count_of (fields_of b)) (drop (first_of (fields_of b)) rs) (All-drop Resolved (first_of (fields_of b)) rs all)),

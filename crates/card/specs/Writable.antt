@@ -6,7 +6,7 @@
 --   Writable         so for each module, within the limits
 --   Exact            an image is accepted exactly where a writable meaning has these bytes, and that is what it means
 use Rattle.std.specs.Prelude.{◌≡◌, ℕ, ◌<◌, ◌≤◌, List, [], length, Ok}
-use Rattle.std.specs.List.{AllByRecursion as All}
+use Rattle.std.specs.List.{AllByRecursion}
 use Rattle.faults.specs.Faults.{Verdict}
 use Rattle.source.specs.declared.ImportRecord.{ImportRecord}
 use Rattle.source.specs.declared.Module.TheVariants.{External}
@@ -28,13 +28,13 @@ pub record ModuleFits (s : Scanned) : Type 0 where
   pub start : Fits32 (await_start s.described)
   pub end : Fits32 (await_end s.described)
   pub blank : s.described ≡ External → s.records ≡ []
-  pub records : All RecordFits s.records
+  pub records : AllByRecursion RecordFits s.records
 
 pub record Writable (w : Meaning) : Type 0 where
   pub runtime : Fits32 w.runtime
   pub few_modules : length w.modules ≤ module_limit
   pub few_records : length (all_records w.modules) ≤ record_limit
-  pub modules : All ModuleFits w.modules
+  pub modules : AllByRecursion ModuleFits w.modules
 
 pub record Exact (bs : List ℕ) (answer : Verdict) : Type 0 where
   pub held : answer ≡ Ok tt → Writable (card_meaning bs) × (encode (card_meaning bs) ≡ bs)

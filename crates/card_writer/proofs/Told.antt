@@ -1,6 +1,6 @@
 -- What the writer answers, what it leaves, and that this opens as the source again.
 use Rattle.std.proofs.Common.{◌≡◌, ℕ, ◌+◌, ◌*◌, ◌<◌, ◌≤◌, Bool, true, false, ltb, List, ◌++◌, map, length, get_or, take, drop, is_ok, Ok, Err, Result, sym, refl, ap, ◌∙◌, arith}
-use Rattle.std.specs.List.{AllByRecursion as All}
+use Rattle.std.specs.List.{AllByRecursion}
 use Rattle.std.proofs.lemmas.List.{append_assoc, length-append, take_at}
 use Rattle.std.proofs.ByRecursion.{All-get_or, All-from_get_or}
 use Rattle.std.proofs.lemmas.Bool.{le-ltb, lt-ltb, cond-true}
@@ -43,7 +43,7 @@ whole_written w old one two three head size e eh e1 e2 e3 =
     ∙ ap (λ (n : ℕ). encode w ++ drop n old) size_is
 
 -- a proper source whose numbers fit can be written
-pub writable : (w : Meaning) → Proper w → Fits32 w.runtime → count_of w ≤ 4096 → total_records w ≤ 32768 → All AwaitFits w.modules → All SpansFit w.modules → Writable w
+pub writable : (w : Meaning) → Proper w → Fits32 w.runtime → count_of w ≤ 4096 → total_records w ≤ 32768 → AllByRecursion AwaitFits w.modules → AllByRecursion SpansFit w.modules → Writable w
 writable w p runtime few records awaits spans = record {
   runtime = runtime;
   few_modules = few;

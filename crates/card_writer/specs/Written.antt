@@ -8,7 +8,7 @@
 --   rewrite_answer, rewritten_by   the same for an image that is opened and written again: it comes back byte for byte
 --   left_by         what the slice holds after that answer: the card and what stood past it, or all as it was
 use Rattle.std.specs.Prelude.{◌≡◌, ℕ, ◌+◌, List, ◌++◌, length, take, drop, Ok, Err, Result, nat_lt}
-use Rattle.std.specs.List.{AllByRecursion as All}
+use Rattle.std.specs.List.{AllByRecursion}
 use Rattle.faults.specs.declared.Fault.{Fault}
 use Rattle.faults.specs.declared.Refusal.TheVariants.{TooManyModules, TooManyRecords, WrongLength}
 use Rattle.faults.specs.Faults.{refuse_if, and_then}
@@ -43,7 +43,7 @@ abbrev pub SpanFits : ImportRecord → Type 0
 SpanFits r = Fits32 r.span.start × Fits32 r.span.end
 
 abbrev pub SpansFit : Scanned → Type 0
-SpansFit s = All SpanFits s.records
+SpansFit s = AllByRecursion SpanFits s.records
 
 abbrev pub ReadsBack : Result ℕ Fault → Meaning → List ℕ → Type 0
 ReadsBack (Ok n) w now = card_opened (take n now) ≡ w

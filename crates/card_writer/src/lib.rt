@@ -2,7 +2,7 @@
 #![tactic(auto)]
 
 ghost use Rattle.std.specs.Prelude.{◌≡◌, ◌+◌, ◌*◌, ◌<◌, ◌≤◌, map, length, MatchOption};
-ghost use Rattle.std.specs.List.{AllByRecursion as All};
+ghost use Rattle.std.specs.List.{AllByRecursion};
 ghost use Rattle.source.specs.Meaning.{count_of, records_of, records_in};
 ghost use Rattle.card.specs.Bytes.{flat};
 ghost use Rattle.card.specs.Cards.{all_records, encode_modules, encode_record};
@@ -43,7 +43,7 @@ fn write_modules<S: ModuleSource>(source: &S, out: &mut [u8])
     requires records { total_records (S.ModuleSource.meaning source.now) ≤ 32768 }
     requires room { 16 + 24 * count_of (S.ModuleSource.meaning source.now) ≤ length out.old }
     ensures image { out.new ≡ put_at out.old 16 (flat (encode_modules 0 (S.ModuleSource.meaning source.now).modules)) }
-    ensures fits { All AwaitFits (S.ModuleSource.meaning source.now).modules }
+    ensures fits { AllByRecursion AwaitFits (S.ModuleSource.meaning source.now).modules }
 {
     let mut first = 0;
     for m in 0..source.module_count() {
@@ -58,7 +58,7 @@ fn write_modules<S: ModuleSource>(source: &S, out: &mut [u8])
 fn write_records_of<S: ModuleSource>(source: &S, m: usize, out: &mut [u8], at: usize)
     requires { at + 18 * records_in (S.ModuleSource.meaning source.now) m ≤ length out.old }
     ensures image { out.new ≡ put_at out.old at (flat (map encode_record (records_of (S.ModuleSource.meaning source.now) m))) }
-    ensures fits { All SpanFits (records_of (S.ModuleSource.meaning source.now) m) }
+    ensures fits { AllByRecursion SpanFits (records_of (S.ModuleSource.meaning source.now) m) }
 {
     for k in 0..source.record_count(m) {
         let block = record_block(source.record(m, k));
@@ -72,7 +72,7 @@ fn write_records<S: ModuleSource>(source: &S, out: &mut [u8])
     requires records { total_records (S.ModuleSource.meaning source.now) ≤ 32768 }
     requires room { 16 + 24 * count_of (S.ModuleSource.meaning source.now) + 18 * total_records (S.ModuleSource.meaning source.now) ≤ length out.old }
     ensures image { out.new ≡ put_at out.old (16 + 24 * count_of (S.ModuleSource.meaning source.now)) (flat (map encode_record (all_records (S.ModuleSource.meaning source.now).modules))) }
-    ensures fits { All SpansFit (S.ModuleSource.meaning source.now).modules }
+    ensures fits { AllByRecursion SpansFit (S.ModuleSource.meaning source.now).modules }
 {
     let start = 16 + 24 * source.module_count();
     let mut done = 0;

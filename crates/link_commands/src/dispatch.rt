@@ -2,7 +2,7 @@
 ghost use Rattle.std.specs.Prelude.{IfOk};
 ghost use Rattle.commands.specs.Reports.{Quiet, Whole};
 
-use crate::link::{Told, link, link_usage};
+use crate::classified::{Told, link, link_usage};
 use commands::{CommandError, Report, run as run_other};
 use std::alloc::AllocError;
 

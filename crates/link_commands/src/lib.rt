@@ -1,7 +1,7 @@
 // The commands that classify a source, `link` and `dot`, as functions from words to a report.
 #![tactic(auto)]
 
+mod classified;
 mod dispatch;
-mod link;
 
 pub use dispatch::run;

@@ -2,9 +2,9 @@
 #![tactic(auto)]
 
 mod check;
+mod opened;
 mod rows;
-mod source;
 
 pub use check::check_rows;
+pub use opened::RowSource;
 pub use rows::ModuleRow;
-pub use source::RowSource;

@@ -1,7 +1,7 @@
 -- A search that begins with no module entered has one answer. Assumes nothing.
 use Rattle.std.proofs.Common.{◌≡◌, ℕ, ◌<◌, ◌≤◌, List, length, Option, sym, refl, ◌∙◌, inl, inr, arith}
 use Rattle.std.proofs.lemmas.Bool.{both_ways, cases_eq}
-use Rattle.std.specs.List.{AllByRecursion as All}
+use Rattle.std.specs.List.{AllByRecursion}
 use Rattle.source.specs.Meaning.{Meaning, Proper, count_of}
 use Rattle.marks.proofs.Records.{none_some}
 use Rattle.spread.specs.declared.yes_no.YesNo.{YesNo}
@@ -29,7 +29,7 @@ module _ (w : Meaning) where
   }
 
   module _ (proper : Proper w) (targets : Targets w) where
-    one_answer : {e f e-last f-last : List YesNo} {ts : List ℕ} {r q : Option ℕ} → Alike w e f → All (λ t. t < count_of w) ts → Searches w e ts r e-last → Searches w f ts q f-last → (r ≡ q) × Alike w e-last f-last
+    one_answer : {e f e-last f-last : List YesNo} {ts : List ℕ} {r q : Option ℕ} → Alike w e f → AllByRecursion (λ t. t < count_of w) ts → Searches w e ts r e-last → Searches w f ts q f-last → (r ≡ q) × Alike w e-last f-last
     one_answer a i ends ends = (refl, a)
     one_answer a i (passes h d) (passes k b) = one_answer a i.1 d b
     one_answer a i (passes {t} h d) (stops k b) = absurd (both_ways _ (a.same t i.0 ∙ k) h)

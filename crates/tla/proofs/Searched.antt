@@ -4,7 +4,7 @@ use Rattle.std.proofs.ByRecursion.{All-weaker}
 use Rattle.std.proofs.lemmas.List.{get_or-set_same, get_or-set_other, length-set, set_past}
 use Rattle.std.proofs.lemmas.List.Sums.{sum_by-set}
 use Rattle.std.proofs.lemmas.Bool.{cases_eq, cases_lt, both_ways}
-use Rattle.std.specs.List.{AllByRecursion as All}
+use Rattle.std.specs.List.{AllByRecursion}
 use Rattle.source.specs.Meaning.{Meaning, Proper, count_of, module_at}
 use Rattle.marks.specs.Passes.{Awaits}
 use Rattle.marks.specs.Records.{Imports, Leads, here, along}
@@ -97,7 +97,7 @@ module _ (w : Meaning) (proper : Proper w) (m : ℕ) where
   Found None = Unit {0}
   Found (Some s) = AwaitAt w s × Leads (Imports w) m s
 
-  pub searched_sound : {e last : List YesNo} {ts : List ℕ} {r : Option ℕ} → All (Leads (Imports w) m) ts → Searches w e ts r last → Found r
+  pub searched_sound : {e last : List YesNo} {ts : List ℕ} {r : Option ℕ} → AllByRecursion (Leads (Imports w) m) ts → Searches w e ts r last → Found r
   searched_sound all ends = tt
   searched_sound all (passes h d) = searched_sound all.1 d
   searched_sound all (stops h a) = (a, all.0)
@@ -109,11 +109,11 @@ abbrev Entered : List YesNo → ℕ → Type 0
 Entered e x = flag e x ≡ true
 
 pub record Done (w : Meaning) (e last : List YesNo) (ts : List ℕ) : Type 0 where
-  pub all : All (Entered last) ts
-  pub closed : (x : ℕ) → Entered last x → Entered e x ⊎ ((has_await (module_at w x) ≡ false) × All (Entered last) (imports_of w x))
+  pub all : AllByRecursion (Entered last) ts
+  pub closed : (x : ℕ) → Entered last x → Entered e x ⊎ ((has_await (module_at w x) ≡ false) × AllByRecursion (Entered last) (imports_of w x))
 
 module _ (w : Meaning) (proper : Proper w) (targets : Targets w) where
-  pub searched_done : {e last : List YesNo} {ts : List ℕ} {r : Option ℕ} → r ≡ None → count_of w ≤ length e → All (λ t. t < count_of w) ts → Searches w e ts r last → Done w e last ts
+  pub searched_done : {e last : List YesNo} {ts : List ℕ} {r : Option ℕ} → r ≡ None → count_of w ≤ length e → AllByRecursion (λ t. t < count_of w) ts → Searches w e ts r last → Done w e last ts
   searched_done z long inside ends = record { all = tt; closed = λ x h. inl h }
   searched_done z long inside (passes {t} h d) =
       let rest = searched_done z long inside.1 d in
@@ -124,7 +124,7 @@ module _ (w : Meaning) (proper : Proper w) (targets : Targets w) where
       let below = searched_done refl (omega (arith, enter_long e t)) (imports_inside w proper targets t) d in
       let rest = searched_done z (omega (arith, searched_long w d, enter_long e t)) inside.1 after in
       let keep = searched_kept w after in
-      let lead_in : (x : ℕ) → All (Entered next) (imports_of w x) → All (Entered last) (imports_of w x) = λ x. All-weaker (Entered next) (Entered last) keep (imports_of w x) in
+      let lead_in : (x : ℕ) → AllByRecursion (Entered next) (imports_of w x) → AllByRecursion (Entered last) (imports_of w x) = λ x. All-weaker (Entered next) (Entered last) keep (imports_of w x) in
       record {
         all = (keep t (searched_kept w d t (enter_same e t (omega (arith, inside.0)))), rest.all);
         closed = λ x y. elim (rest.closed x y) [
@@ -132,7 +132,7 @@ module _ (w : Meaning) (proper : Proper w) (targets : Targets w) where
           | inl y1 ↦ elim (below.closed x y1) [
             | inr c ↦ inr (c.0, lead_in x c.1)
             | inl y2 ↦ elim (cases_eq x t) [
-              | inl q ↦ inr (ap (λ (v : ℕ). has_await (module_at w v)) q ∙ n, lead_in x (subst (λ (v : ℕ). All (Entered next) (imports_of w v)) (sym q) below.all))
+              | inl q ↦ inr (ap (λ (v : ℕ). has_await (module_at w v)) q ∙ n, lead_in x (subst (λ (v : ℕ). AllByRecursion (Entered next) (imports_of w v)) (sym q) below.all))
               | inr ne ↦ inl (sym (enter_other e t x ne) ∙ y2)
             ]
           ]
@@ -140,7 +140,7 @@ module _ (w : Meaning) (proper : Proper w) (targets : Targets w) where
       }
 
   module _ (e last : List YesNo) (m : ℕ) (long : count_of w ≤ length e) (lt : m < count_of w) (clear : (x : ℕ) → x < count_of w → flag e x ≡ false) where
-    step : Done w e last (m ∷ []) → (x : ℕ) → x < count_of w → Entered last x → (has_await (module_at w x) ≡ false) × All (Entered last) (imports_of w x)
+    step : Done w e last (m ∷ []) → (x : ℕ) → x < count_of w → Entered last x → (has_await (module_at w x) ≡ false) × AllByRecursion (Entered last) (imports_of w x)
     step d x h y = elim (d.closed x y) [ inl o ↦ absurd (both_ways _ (clear x h) o) | inr c ↦ c ]
 
     reached : Done w e last (m ∷ []) → (x : ℕ) → Leads (Imports w) m x → Entered last x

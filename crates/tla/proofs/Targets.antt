@@ -3,7 +3,7 @@ use Rattle.std.proofs.Common.{◌≡◌, ℕ, zero, suc, ◌<◌, Bool, true, fa
 use Rattle.std.proofs.ByRecursion.{All-weaker}
 use Rattle.std.proofs.lemmas.List.{get_or_past}
 use Rattle.std.proofs.lemmas.Bool.{cases_lt}
-use Rattle.std.specs.List.{AllByRecursion as All}
+use Rattle.std.specs.List.{AllByRecursion}
 use Rattle.source.specs.declared.ImportKind.TheVariants.{Import}
 use Rattle.source.specs.declared.ImportRecord.{ImportRecord}
 use Rattle.source.specs.declared.Module.{Module}
@@ -18,31 +18,31 @@ use Rattle.tla.specs.Search.{led_to, imports_in, imports_of}
 
 -- a record's targets, before those of other records
 module _ (P : ℕ → Type 0) where
-  led_each : (b : Bool) (target : Option ℕ) (ts : List ℕ) → ((t : ℕ) → b ≡ true → target ≡ Some t → P t) → All P ts → All P (led_to b target ++ ts)
+  led_each : (b : Bool) (target : Option ℕ) (ts : List ℕ) → ((t : ℕ) → b ≡ true → target ≡ Some t → P t) → AllByRecursion P ts → AllByRecursion P (led_to b target ++ ts)
   led_each true None ts here all = all
   led_each true (Some t) ts here all = (here t refl refl, all)
   led_each false target ts here all = all
 
-  led_first : (b : Bool) (target : Option ℕ) (ts : List ℕ) (t : ℕ) → b ≡ true → target ≡ Some t → All P (led_to b target ++ ts) → P t
+  led_first : (b : Bool) (target : Option ℕ) (ts : List ℕ) (t : ℕ) → b ≡ true → target ≡ Some t → AllByRecursion P (led_to b target ++ ts) → P t
   led_first true None ts t e f all = absurd (none_some t f)
   led_first true (Some y) ts t e f all = subst P (let is : y ≡ t = cc in is) all.0
   led_first false target ts t e f all = let z : ◌≡◌ {A = ℕ} 0 1 = cc in absurd (omega arith)
 
-  led_rest : (b : Bool) (target : Option ℕ) (ts : List ℕ) → All P (led_to b target ++ ts) → All P ts
+  led_rest : (b : Bool) (target : Option ℕ) (ts : List ℕ) → AllByRecursion P (led_to b target ++ ts) → AllByRecursion P ts
   led_rest true None ts all = all
   led_rest true (Some y) ts all = all.1
   led_rest false target ts all = all
 
-  each_import : (rs : List ImportRecord) → ((k t : ℕ) → is_import (get_or rs k past_records).kind ≡ true → (get_or rs k past_records).target ≡ Some t → P t) → All P (imports_in rs)
+  each_import : (rs : List ImportRecord) → ((k t : ℕ) → is_import (get_or rs k past_records).kind ≡ true → (get_or rs k past_records).target ≡ Some t → P t) → AllByRecursion P (imports_in rs)
   each_import [] here = tt
   each_import (r ∷ rs) here = led_each (is_import r.kind) r.target (imports_in rs) (here 0) (each_import rs (λ k. here (suc k)))
 
-  an_import : (rs : List ImportRecord) (k t : ℕ) → is_import (get_or rs k past_records).kind ≡ true → (get_or rs k past_records).target ≡ Some t → All P (imports_in rs) → P t
+  an_import : (rs : List ImportRecord) (k t : ℕ) → is_import (get_or rs k past_records).kind ≡ true → (get_or rs k past_records).target ≡ Some t → AllByRecursion P (imports_in rs) → P t
   an_import [] k t e f all = absurd (none_some t f)
   an_import (r ∷ rs) zero t e f all = led_first (is_import r.kind) r.target (imports_in rs) t e f all
   an_import (r ∷ rs) (suc k) t e f all = an_import rs k t e f (led_rest (is_import r.kind) r.target (imports_in rs) all)
 
-  pub of_import : (w : Meaning) (a b : ℕ) → Imports w a b → All P (imports_of w a) → P b
+  pub of_import : (w : Meaning) (a b : ℕ) → Imports w a b → AllByRecursion P (imports_of w a) → P b
   of_import w a b i all = an_import (records_of w a) i.0 b (ap is_import i.1.by) i.1.to all
 
 -- only a normal module has records
@@ -60,12 +60,12 @@ module _ (w : Meaning) (proper : Proper w) where
     | inr ge ↦ absurd (none_some t (sym (ap (λ (r : ImportRecord). r.target) (get_or_past (records_of w m) k past_records ge)) ∙ e))
   ]
 
-  pub each_imported : (m : ℕ) → All (Imports w m) (imports_of w m)
+  pub each_imported : (m : ℕ) → AllByRecursion (Imports w m) (imports_of w m)
   each_imported m = each_import (Imports w m) (records_of w m) (λ k t e f.
       awaits_to w m t (k, (record_at w m k).kind, record { points = record { importer = has_records m k (resolved_in m k t f); by = refl; to = f }; on = e }))
 
-  pub imports_led : (q m : ℕ) → Leads (Imports w) q m → All (Leads (Imports w) q) (imports_of w m)
+  pub imports_led : (q m : ℕ) → Leads (Imports w) q m → AllByRecursion (Leads (Imports w) q) (imports_of w m)
   imports_led q m l = All-weaker (Imports w m) (Leads (Imports w) q) (λ t i. along i l) (imports_of w m) (each_imported m)
 
-  pub imports_inside : Targets w → (m : ℕ) → All (λ t. t < count_of w) (imports_of w m)
+  pub imports_inside : Targets w → (m : ℕ) → AllByRecursion (λ t. t < count_of w) (imports_of w m)
   imports_inside targets m = All-weaker (Imports w m) (λ t. t < count_of w) (λ t i. targets m t (i.0, Import, i.1)) (imports_of w m) (each_imported m)

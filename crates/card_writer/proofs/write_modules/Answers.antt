@@ -1,7 +1,7 @@
 use Rattle.std.proofs.Common.{◌<◌, length, ap, ◌∙◌, subst, arith}
 use Rattle.std.proofs.lemmas.List.{take_all}
 use Rattle.std.proofs.ByRecursion.{All-more}
-use Rattle.std.specs.List.{AllByRecursion as All}
+use Rattle.std.specs.List.{AllByRecursion}
 use Rattle.source.specs.declared.Module.{Module}
 use Rattle.source.specs.Meaning.{past_modules}
 use Rattle.card.specs.Bytes.{flat}
@@ -48,5 +48,5 @@ returns g c =
     let whole = take_all c.loop-m.m ss (omega (arith, c.module_count-m-end.ensures)) in
     record {
       image = c.loop-m.invariant.1 ∙ ap (λ x. put_at c.args.out.now 16 (flat (encode_modules 0 x))) whole;
-      fits = subst (All AwaitFits) whole c.loop-m.invariant.2;
+      fits = subst (AllByRecursion AwaitFits) whole c.loop-m.invariant.2;
     }

@@ -1,7 +1,7 @@
 use Rattle.std.proofs.Common.{◌+◌, ◌*◌, ◌<◌, map, length, refl, ap, ◌∙◌, subst, arith}
 use Rattle.std.proofs.lemmas.List.{take_all}
 use Rattle.std.proofs.ByRecursion.{All-more}
-use Rattle.std.specs.List.{AllByRecursion as All}
+use Rattle.std.specs.List.{AllByRecursion}
 use Rattle.source.specs.Meaning.{past_modules}
 use Rattle.card.specs.Bytes.{flat}
 use Rattle.card.specs.Cards.{all_records, encode_record}
@@ -56,5 +56,5 @@ returns g c =
           c.loop-m.invariant.1
           ∙ ap (λ x. put_at c.args.out.now (16 + 24 * c.module_count.result) (flat (map encode_record (all_records x)))) whole
           ∙ ap (λ n. put_at c.args.out.now (16 + 24 * n) (flat (map encode_record (all_records ss)))) c.module_count.ensures;
-      fits = subst (All SpansFit) whole c.loop-m.invariant.2;
+      fits = subst (AllByRecursion SpansFit) whole c.loop-m.invariant.2;
     }

@@ -1,7 +1,7 @@
 use Rattle.std.proofs.Common.{◌<◌, map, length, ap, ◌∙◌, subst, arith}
 use Rattle.std.proofs.lemmas.List.{take_all}
 use Rattle.std.proofs.ByRecursion.{All-more}
-use Rattle.std.specs.List.{AllByRecursion as All}
+use Rattle.std.specs.List.{AllByRecursion}
 use Rattle.source.specs.Meaning.{records_of, past_records}
 use Rattle.card.specs.Bytes.{flat}
 use Rattle.card.specs.Cards.{encode_record}
@@ -29,5 +29,5 @@ returns g c =
     let whole = take_all c.loop-k.k rs (omega (arith, c.record_count-k-end.ensures)) in
     record {
       image = c.loop-k.invariant.0 ∙ ap (λ x. put_at c.args.out.now c.args.at (flat (map encode_record x))) whole;
-      fits = subst (All SpanFits) whole c.loop-k.invariant.1;
+      fits = subst (AllByRecursion SpanFits) whole c.loop-k.invariant.1;
     }

@@ -1,5 +1,5 @@
 use Rattle.std.proofs.Common.{◌≡◌, map, take}
-use Rattle.std.specs.List.{AllByRecursion as All}
+use Rattle.std.specs.List.{AllByRecursion}
 use Rattle.source.specs.Meaning.{records_of}
 use Rattle.card.specs.Bytes.{flat}
 use Rattle.card.specs.Cards.{encode_record}
@@ -9,4 +9,4 @@ use Rattle.card_writer.proofs.write_records_of.Given as goal
 abbrev pub invariant-loop-k : goal.invariant-loop-k
 invariant-loop-k g l =
     let done = take l.k (records_of (g.S.ModuleSource.meaning l.source) l.m) in
-    (l.out ≡ put_at l.initial.out l.at (flat (map encode_record done))) × All SpanFits done
+    (l.out ≡ put_at l.initial.out l.at (flat (map encode_record done))) × AllByRecursion SpanFits done

@@ -1,7 +1,7 @@
 use Rattle.std.proofs.Common.{sym, ap}
 use Rattle.source.specs.Meaning.{Scanned}
 use Rattle.row_source.specs.Propers.{scanned_past, scanned_in}
-use Rattle.row_source.proofs.source.RowSourceModuleSource.module.Goals as goal
+use Rattle.row_source.proofs.opened.RowSourceModuleSource.module.Goals as goal
 
 pub returns-then-m-self : goal.returns-then-m-self
 returns-then-m-self c =

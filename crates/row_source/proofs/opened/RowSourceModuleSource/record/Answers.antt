@@ -2,7 +2,7 @@ use Rattle.std.proofs.Common.{◌+◌, ◌<◌, length, get_or, sym, ap, ◌∙�
 use Rattle.std.proofs.lemmas.List.{get_or_default}
 use Rattle.source.specs.Meaning.{Scanned, past_records}
 use Rattle.row_source.specs.Propers.{zero_row, zero_record, scanned_past, row_within, record_past, record_in}
-use Rattle.row_source.proofs.source.RowSourceModuleSource.record.Goals as goal
+use Rattle.row_source.proofs.opened.RowSourceModuleSource.record.Goals as goal
 
 pub returns-then-m-self : goal.returns-then-m-self
 returns-then-m-self c =

@@ -1,7 +1,7 @@
 use Rattle.std.proofs.Common.{length, get_or, sym, ap, ◌∙◌}
 use Rattle.source.specs.Meaning.{Scanned}
 use Rattle.row_source.specs.Propers.{zero_row, scanned_past, scanned_in, row_count, row_within}
-use Rattle.row_source.proofs.source.RowSourceModuleSource.record_count.Goals as goal
+use Rattle.row_source.proofs.opened.RowSourceModuleSource.record_count.Goals as goal
 
 pub returns-then-m-self : goal.returns-then-m-self
 returns-then-m-self c =
