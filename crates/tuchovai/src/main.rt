@@ -1,11 +1,11 @@
 // The program: it hands its words on, prints what is answered and ends with the status.
 #![tactic(auto)]
 
-use anyhow::anyhow;
 use link_commands::run;
 use std::env;
+use std::process::ExitCode;
 
-fn main(rt: HostRuntime) -> anyhow::Result<()> {
+fn main(rt: HostRuntime) -> anyhow::Result<ExitCode> {
     let mut words = Vec::new(rt.alloc());
     for word in env::args(&rt)?.skip(1) {
         words.push(word)?;
@@ -16,7 +16,7 @@ fn main(rt: HostRuntime) -> anyhow::Result<()> {
     print!(rt; "{out}")?;
     eprint!(rt; "{err}")?;
     if report.failed {
-        return Err(anyhow!("refused"));
+        return Ok(ExitCode::FAILURE);
     }
-    Ok(())
+    Ok(ExitCode::SUCCESS)
 }
