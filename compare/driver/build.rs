@@ -9,7 +9,7 @@ fn main() {
         return;
     };
     println!("cargo::rustc-cfg=library");
-    for (folder, name) in [(ours, "tuchovai_c"), (kit, "rattle_c")] {
+    for (folder, name) in [(ours, "tuchovai_c"), (kit, "libc_c")] {
         println!("cargo::rerun-if-changed={folder}/lib{name}.a");
         println!("cargo::rustc-link-search=native={folder}");
         println!("cargo::rustc-link-lib=static={name}");
