@@ -54,25 +54,37 @@ fn make_pass<S: ModuleSource>(
                     .entries(source, marks, sets.as_mut_slice(), arrows.as_mut_slice()),
             ))
         }
-        Pass::Await => {
-            let mut ends = vec![in heap; 9usize; asked.places]?;
-            let mut found = vec![in heap; Some(9usize); asked.places]?;
-            let list = desk.awaits.as_mut_slice();
-            let rows = asked.rows.min(list.len());
-            let answer = desk.link.awaits(
-                source,
-                marks,
-                facts.as_mut_slice(),
-                flags.as_mut_slice(),
-                ends.as_mut_slice(),
-                found.as_mut_slice(),
-                arrows.as_mut_slice(),
-                &mut list[0..rows],
-            );
-            desk.await_count = answer.unwrap_or(desk.await_count);
-            Ok(answer)
-        }
+        Pass::Await => make_await(heap, desk, source, asked),
     }
+}
+
+fn make_await<S: ModuleSource>(
+    heap: Global,
+    desk: &mut Desk,
+    source: &S,
+    asked: &Asked,
+) -> Result<Result<usize, Fault>, AllocError> {
+    let marks = desk.marks.as_mut_slice();
+    let n = asked.marks.min(marks.len());
+    let mut facts = vec![in heap; YesNo(true); asked.places]?;
+    let mut entered = vec![in heap; YesNo(true); asked.places]?;
+    let mut ends = vec![in heap; 9usize; asked.places]?;
+    let mut found = vec![in heap; Some(9usize); asked.places]?;
+    let mut arrows = vec![in heap; Arrow { from: 9, to: 9 }; asked.arrows]?;
+    let list = desk.awaits.as_mut_slice();
+    let rows = asked.rows.min(list.len());
+    let answer = desk.link.awaits(
+        source,
+        &mut marks[0..n],
+        facts.as_mut_slice(),
+        entered.as_mut_slice(),
+        ends.as_mut_slice(),
+        found.as_mut_slice(),
+        arrows.as_mut_slice(),
+        &mut list[0..rows],
+    );
+    desk.await_count = answer.unwrap_or(desk.await_count);
+    Ok(answer)
 }
 
 /// Makes the call and answers what it answers.
