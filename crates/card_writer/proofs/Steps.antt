@@ -1,6 +1,7 @@
 -- One more block: what the lists of blocks and the slice come to.
-use Rattle.std.proofs.Common.{◌≡◌, ℕ, zero, suc, ◌+◌, ◌*◌, ◌<◌, ◌≤◌, List, [], ◌∷◌, ◌++◌, map, length, get_or, take, drop, sym, refl, ap, ◌∙◌, add-zero, arith}
+use Rattle.std.proofs.Common.{◌≡◌, ℕ, zero, suc, ◌+◌, ◌*◌, ◌<◌, ◌≤◌, List, [], ◌∷◌, ◌++◌, map, length, sum_by, get_or, take, drop, sym, refl, ap, ◌∙◌, add-zero, arith}
 use Rattle.std.proofs.lemmas.List.{append-nil, append_assoc, length-append, length-take-le, take-append-drop, take_at, drop_at, drop-drop, take_more, map_push, map-append}
+use Rattle.std.proofs.lemmas.List.Sums.{sum_by-cons}
 use Rattle.source.specs.declared.ImportRecord.{ImportRecord}
 use Rattle.source.specs.declared.Module.{Module}
 use Rattle.source.specs.Meaning.{Scanned, past_modules, past_records}
@@ -80,8 +81,13 @@ count_le zero ss = omega arith
 count_le (suc m) [] = omega arith
 count_le (suc m) (s ∷ ss) = omega (arith, length-append s.records (all_records (take m ss)), length-append s.records (all_records ss), count_le m ss)
 
-pub count_within : (ss : List Scanned) (m : ℕ) → m < length ss → length (all_records (take m ss)) + length (get_or ss m past_modules).records ≤ length (all_records ss)
-count_within ss m h = omega (arith, count_more ss m h, count_le (m + 1) ss)
+-- the records of all modules, counted module by module
+pub counted : (ss : List Scanned) → sum_by (λ (s : Scanned). length s.records) ss ≡ length (all_records ss)
+counted [] = refl
+counted (s ∷ ss) = sum_by-cons (λ (s' : Scanned). length s'.records) s ss ∙ ap (λ n. length s.records + n) (counted ss) ∙ sym (length-append s.records (all_records ss))
+
+pub count_within : (ss : List Scanned) (m : ℕ) → m < length ss → length (all_records (take m ss)) + length (get_or ss m past_modules).records ≤ sum_by (λ (s : Scanned). length s.records) ss
+count_within ss m h = omega (arith, count_more ss m h, count_le (m + 1) ss, counted ss)
 
 pub records_more : (rs : List ImportRecord) (k : ℕ) → k < length rs → flat (map encode_record (take (k + 1) rs)) ≡ flat (map encode_record (take k rs)) ++ encode_record (get_or rs k past_records)
 records_more rs k h =

@@ -7,20 +7,20 @@ use Rattle.std.proofs.lemmas.Bool.{le-ltb, lt-ltb, cond-true}
 use Rattle.faults.specs.declared.Fault.{Fault}
 use Rattle.faults.specs.declared.Refusal.TheVariants.{TooManyModules, TooManyRecords, WrongLength}
 use Rattle.faults.specs.Faults.{Verdict, refuse_if, and_then}
-use Rattle.source.specs.Meaning.{Meaning, Proper, count_of, past_modules, past_records, no_modules}
+use Rattle.source.specs.Meaning.{Meaning, Proper, count_of, record_total, past_modules, past_records, no_modules}
 use Rattle.card.specs.Bytes.{flat}
 use Rattle.card.specs.Cards.{card_fault, go_on, card_verdict, is_card, card_meaning, card_opened, all_records, encode_head, encode_modules, encode_record, encode}
 use Rattle.card.specs.Writable.{Fits32, RecordFits, ModuleFits, Writable, Exact}
 use Rattle.card.proofs.Whole.{head_length, modules_length, opened}
-use Rattle.card_writer.specs.Written.{total_records, put_at, write_answer, left_by, rewrite_answer, rewritten_by, AwaitFits, SpanFits, SpansFit}
-use Rattle.card_writer.proofs.Steps.{put_step}
+use Rattle.card_writer.specs.Written.{put_at, write_answer, left_by, rewrite_answer, rewritten_by, AwaitFits, SpanFits, SpansFit}
+use Rattle.card_writer.proofs.Steps.{put_step, counted}
 
 -- the answer, once the limits are kept
-module _ (w : Meaning) (room : ℕ) (few : count_of w ≤ 4096) (records : total_records w ≤ 32768) where
+module _ (w : Meaning) (room : ℕ) (few : count_of w ≤ 4096) (records : record_total w ≤ 32768) where
   after_limits : (t : Bool) → ltb room (length (encode w)) ≡ t → write_answer w room ≡ go_on (refuse_if t (card_fault WrongLength room)) (λ _. Ok (length (encode w)))
   after_limits t e =
-      ap (λ (a : Bool). go_on (and_then (refuse_if a (card_fault TooManyModules 0)) (and_then (refuse_if (ltb 32768 (total_records w)) (card_fault TooManyRecords 0)) (refuse_if (ltb room (length (encode w))) (card_fault WrongLength room)))) (λ _. Ok (length (encode w)))) (le-ltb 4096 (count_of w) few)
-      ∙ ap (λ (a : Bool). go_on (and_then (refuse_if a (card_fault TooManyRecords 0)) (refuse_if (ltb room (length (encode w))) (card_fault WrongLength room))) (λ _. Ok (length (encode w)))) (le-ltb 32768 (total_records w) records)
+      ap (λ (a : Bool). go_on (and_then (refuse_if a (card_fault TooManyModules 0)) (and_then (refuse_if (ltb 32768 (record_total w)) (card_fault TooManyRecords 0)) (refuse_if (ltb room (length (encode w))) (card_fault WrongLength room)))) (λ _. Ok (length (encode w)))) (le-ltb 4096 (count_of w) few)
+      ∙ ap (λ (a : Bool). go_on (and_then (refuse_if a (card_fault TooManyRecords 0)) (refuse_if (ltb room (length (encode w))) (card_fault WrongLength room))) (λ _. Ok (length (encode w)))) (le-ltb 32768 (record_total w) records)
       ∙ ap (λ (a : Bool). go_on (refuse_if a (card_fault WrongLength room)) (λ _. Ok (length (encode w)))) e
 
   pub too_short : (size : ℕ) → size ≡ length (encode w) → room < size → Err (card_fault WrongLength room) ≡ write_answer w room
@@ -43,11 +43,11 @@ whole_written w old one two three head size e eh e1 e2 e3 =
     ∙ ap (λ (n : ℕ). encode w ++ drop n old) size_is
 
 -- a proper source whose numbers fit can be written
-pub writable : (w : Meaning) → Proper w → Fits32 w.runtime → count_of w ≤ 4096 → total_records w ≤ 32768 → AllByRecursion AwaitFits w.modules → AllByRecursion SpansFit w.modules → Writable w
+pub writable : (w : Meaning) → Proper w → Fits32 w.runtime → count_of w ≤ 4096 → record_total w ≤ 32768 → AllByRecursion AwaitFits w.modules → AllByRecursion SpansFit w.modules → Writable w
 writable w p runtime few records awaits spans = record {
   runtime = runtime;
   few_modules = few;
-  few_records = records;
+  few_records = omega (arith, counted w.modules, records);
   modules = All-from_get_or ModuleFits w.modules past_modules (λ m h.
       let await = All-get_or AwaitFits w.modules m past_modules h awaits in
       let its = All-get_or SpansFit w.modules m past_modules h spans in
@@ -82,7 +82,7 @@ module _ (image : List ℕ) (w : Meaning) (verdict : card_verdict image ≡ Ok t
   pub rewritten_answer : (r : Result ℕ Fault) (room : ℕ) → r ≡ write_answer w room → r ≡ rewrite_answer image room
   rewritten_answer r room e =
       let few : count_of w ≤ 4096 = rw means fits.few_modules in
-      let records : total_records w ≤ 32768 = rw means fits.few_records in
+      let records : record_total w ≤ 32768 = rw means (omega (arith, counted (card_meaning image).modules, fits.few_records)) in
       e ∙ after_limits w room few records (ltb room (length (encode w))) refl
       ∙ ap (λ (x : List ℕ). go_on (refuse_if (ltb room (length x)) (card_fault WrongLength room)) (λ _. Ok (length x))) again
       ∙ ap (λ (v : Verdict). go_on (and_then v (refuse_if (ltb room (length image)) (card_fault WrongLength room))) (λ _. Ok (length image))) (sym verdict)

@@ -1,6 +1,5 @@
 -- What the card writer answers and leaves.
 --
---   total_records   how many records all the modules have
 --   put_at          a list with others written over it from an offset on
 --   write_answer    the card's byte count, or what is refused: the limits, then the slice's length
 --   AwaitFits, SpanFits, SpansFit   the numbers of a module, of a record and of all its records fit their four bytes
@@ -13,14 +12,11 @@ use Rattle.faults.specs.declared.Fault.{Fault}
 use Rattle.faults.specs.declared.Refusal.TheVariants.{TooManyModules, TooManyRecords, WrongLength}
 use Rattle.faults.specs.Faults.{refuse_if, and_then}
 use Rattle.source.specs.declared.ImportRecord.{ImportRecord}
-use Rattle.source.specs.Meaning.{Meaning, Scanned, count_of}
+use Rattle.source.specs.Meaning.{Meaning, Scanned, count_of, record_total}
 use Rattle.source.specs.Numbers.{module_limit, record_limit}
-use Rattle.card.specs.Cards.{card_fault, go_on, card_verdict, card_opened, all_records, encode}
+use Rattle.card.specs.Cards.{card_fault, go_on, card_verdict, card_opened, encode}
 use Rattle.card.specs.Fields.{await_start, await_end}
 use Rattle.card.specs.Writable.{Fits32}
-
-abbrev pub total_records : Meaning → ℕ
-total_records w = length (all_records w.modules)
 
 abbrev pub put_at : List ℕ → ℕ → List ℕ → List ℕ
 put_at bs at xs = take at bs ++ (xs ++ drop (at + length xs) bs)
@@ -28,7 +24,7 @@ put_at bs at xs = take at bs ++ (xs ++ drop (at + length xs) bs)
 abbrev pub write_answer : Meaning → ℕ → Result ℕ Fault
 write_answer w room =
     go_on (and_then (refuse_if (nat_lt module_limit (count_of w)) (card_fault TooManyModules 0))
-    (and_then (refuse_if (nat_lt record_limit (total_records w)) (card_fault TooManyRecords 0))
+    (and_then (refuse_if (nat_lt record_limit (record_total w)) (card_fault TooManyRecords 0))
     (refuse_if (nat_lt room (length (encode w))) (card_fault WrongLength room))))
     (λ _. Ok (length (encode w)))
 

@@ -58,7 +58,7 @@ pub fn record_block(record: ImportRecord) -> [u8; 18]
     ensures start { Fits32 «record».span.start }
     ensures end { Fits32 «record».span.end }
 {
-    let kind = record.kind.number();
+    let kind = u8::from(record.kind);
     let star = bit(record.star);
     let [t0, t1, t2, t3] = bytes_of(target_number(record.target));
     let [s0, s1, s2, s3] = bytes_of(record.span.start);
@@ -93,7 +93,7 @@ pub fn module_block(module: Module, first: u32, count: u32) -> [u8; 24]
     match module {
         Module::External => module_bytes(0, 0, 0, Span { start: 0, end: 0 }, first, count),
         Module::Normal(normal) => {
-            let scanned = normal.scanned.number();
+            let scanned = u8::from(normal.scanned);
             module_bytes(
                 1,
                 scanned,

@@ -1,17 +1,17 @@
 // Any source, written as a card.
 #![tactic(auto)]
 
-ghost use Rattle.std.specs.Prelude.{◌≡◌, ◌+◌, ◌*◌, ◌<◌, ◌≤◌, map, length, MatchOption};
+ghost use Rattle.std.specs.Prelude.{◌≡◌, ◌+◌, ◌*◌, ◌<◌, ◌≤◌, map, length};
 ghost use Rattle.std.specs.List.{AllByRecursion};
-ghost use Rattle.source.specs.Meaning.{count_of, records_of, records_in};
+ghost use Rattle.source.specs.Meaning.{count_of, records_of, records_in, record_total};
 ghost use Rattle.card.specs.Bytes.{flat};
 ghost use Rattle.card.specs.Cards.{all_records, encode_modules, encode_record};
-ghost use Rattle.card_writer.specs.Written.{total_records, put_at, write_answer, left_by, AwaitFits, SpanFits, SpansFit, ReadsBack, rewrite_answer, rewritten_by};
+ghost use Rattle.card_writer.specs.Written.{put_at, write_answer, left_by, AwaitFits, SpanFits, SpansFit, ReadsBack, rewrite_answer, rewritten_by};
 
 use crate::blocks::{head_block, module_block, record_block};
 use card::{CardSource, card_fault, check_card};
 use faults::{Fault, Refusal};
-use source::{MODULE_LIMIT, ModuleSource, RECORD_LIMIT};
+use source::{MODULE_LIMIT, ModuleSource, count_records};
 
 mod blocks;
 
@@ -22,25 +22,10 @@ fn put(out: &mut [u8], at: usize, bytes: &[u8])
     out[at..at + bytes.len()].copy_from_slice(bytes);
 }
 
-/// How many records all the modules have, if they are within the limit.
-fn count_records<S: ModuleSource>(source: &S) -> Option<usize>
-    ensures { MatchOption result (32768 < total_records (S.ModuleSource.meaning source.now)) (λ n. (n ≡ total_records (S.ModuleSource.meaning source.now)) × (n ≤ 32768)) }
-{
-    let mut total = 0;
-    for m in 0..source.module_count() {
-        let more = source.record_count(m);
-        if more > RECORD_LIMIT - total {
-            return None;
-        }
-        total += more;
-    }
-    Some(total)
-}
-
 /// Writes the block of each module, the first at byte 16.
 fn write_modules<S: ModuleSource>(source: &S, out: &mut [u8])
     requires modules { count_of (S.ModuleSource.meaning source.now) ≤ 4096 }
-    requires records { total_records (S.ModuleSource.meaning source.now) ≤ 32768 }
+    requires records { record_total (S.ModuleSource.meaning source.now) ≤ 32768 }
     requires room { 16 + 24 * count_of (S.ModuleSource.meaning source.now) ≤ length out.old }
     ensures image { out.new ≡ put_at out.old 16 (flat (encode_modules 0 (S.ModuleSource.meaning source.now).modules)) }
     ensures fits { AllByRecursion AwaitFits (S.ModuleSource.meaning source.now).modules }
@@ -69,8 +54,8 @@ fn write_records_of<S: ModuleSource>(source: &S, m: usize, out: &mut [u8], at: u
 /// Writes the block of each record, past those of the modules.
 fn write_records<S: ModuleSource>(source: &S, out: &mut [u8])
     requires modules { count_of (S.ModuleSource.meaning source.now) ≤ 4096 }
-    requires records { total_records (S.ModuleSource.meaning source.now) ≤ 32768 }
-    requires room { 16 + 24 * count_of (S.ModuleSource.meaning source.now) + 18 * total_records (S.ModuleSource.meaning source.now) ≤ length out.old }
+    requires records { record_total (S.ModuleSource.meaning source.now) ≤ 32768 }
+    requires room { 16 + 24 * count_of (S.ModuleSource.meaning source.now) + 18 * record_total (S.ModuleSource.meaning source.now) ≤ length out.old }
     ensures image { out.new ≡ put_at out.old (16 + 24 * count_of (S.ModuleSource.meaning source.now)) (flat (map encode_record (all_records (S.ModuleSource.meaning source.now).modules))) }
     ensures fits { AllByRecursion SpansFit (S.ModuleSource.meaning source.now).modules }
 {

@@ -214,7 +214,7 @@ fn pack(rt: &HostRuntime, from: &str, to: &str) -> Result<Report, CommandError>
 pub fn fault_words(heap: Global, fault: &Fault) -> Result<String, AllocError>
     ensures { IfOk result (λ text. string_bytes text ≡ fault_text fault.now) }
 {
-    let number = fault.refusal.number();
+    let number = u8::from(fault.refusal);
     let layer = fault.layer.name();
     let at = fault.place.at;
     let record = fault.place.record;

@@ -1,13 +1,13 @@
 // `export * from './driver.js'` passes on names that nobody knows before the driver has run, where the driver is external
 // or CommonJS. A module whose star records come to such a one has dynamic exports.
 ghost use Rattle.std.specs.Prelude.{◌≡◌, ◌≤◌, true, ◌↔◌, length};
-ghost use Rattle.source.specs.Meaning.{count_of, module_at};
+ghost use Rattle.source.specs.Meaning.{count_of, module_at, record_total};
 ghost use Rattle.marks.specs.declared.options.LinkOptions.{LinkOptions};
 ghost use Rattle.marks.specs.Passes.{StarDid};
 ghost use Rattle.marks.specs.Records.{HasStar};
 ghost use Rattle.marks.specs.Rows.{Written};
 ghost use Rattle.ways.specs.Targets.{Filled};
-ghost use Rattle.ways.specs.Ways.{Targets, record_total};
+ghost use Rattle.ways.specs.Ways.{Targets};
 ghost use Rattle.dynamic_exports.specs.Stars.{open_end, OpenAt, StarredRow};
 
 use marks::{Mark, MarkRow};

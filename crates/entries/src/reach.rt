@@ -1,10 +1,10 @@
 // Each entry of the script, as `node bar3.js`, brings the modules that it imports or requires, and those that they do.
 ghost use Rattle.std.specs.Prelude.{◌≡◌, ◌≤◌, length};
-ghost use Rattle.source.specs.Meaning.{count_of};
+ghost use Rattle.source.specs.Meaning.{count_of, record_total};
 ghost use Rattle.marks.specs.declared.options.LinkOptions.{LinkOptions};
 ghost use Rattle.marks.specs.Passes.{EntriesDid, is_entry, rank};
 ghost use Rattle.marks.specs.Rows.{Written};
-ghost use Rattle.ways.specs.Ways.{Targets, record_total};
+ghost use Rattle.ways.specs.Ways.{Targets};
 ghost use Rattle.entries.specs.Starts.{Ranked, EnteredRow};
 
 use marks::{Mark, MarkRow};

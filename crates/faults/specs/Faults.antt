@@ -3,11 +3,12 @@
 --   refusal_number   the number under which a rule is known outside
 --   layer_name       the word for a layer, as its bytes
 --   fault            a fault of a rule, found by a layer, at a place
+--   fault_text       how a fault is printed, as `number=14 layer=card place=40,0`
 --   Verdict          accepted, or the fault
 --   refuse_if        a check: refused with this fault exactly where the test holds
 --   and_then         two checks in their order: the first that refuses decides
 --   each             a check of every element of a list, numbered from i on: the first that is refused decides
-use Rattle.std.specs.Prelude.{ℕ, ◌+◌, Bool, true, false, List, [], ◌∷◌, Ok, Err, codes, Result}
+use Rattle.std.specs.Prelude.{ℕ, ◌+◌, Bool, true, false, List, [], ◌∷◌, ◌++◌, Ok, Err, codes, decimal, Result}
 use Rattle.faults.specs.declared.Fault.{Fault}
 use Rattle.faults.specs.declared.Layer.{Layer}
 use Rattle.faults.specs.declared.Layer.TheVariants.{Card, Source, Link, Interop}
@@ -42,6 +43,10 @@ layer_name Interop = codes "interop"
 
 abbrev pub fault : Refusal → Layer → ℕ → ℕ → Fault
 fault rule found at inner = record { refusal = rule; layer = found; place = record { at = at; «record» = inner } }
+
+abbrev pub fault_text : Fault → List ℕ
+fault_text f =
+    codes "number=" ++ (decimal (refusal_number f.refusal) ++ (codes " layer=" ++ (layer_name f.layer ++ (codes " place=" ++ (decimal f.place.at ++ (codes "," ++ decimal f.place.«record»))))))
 
 abbrev pub Verdict : Type 0
 Verdict = Result (Unit {0}) Fault

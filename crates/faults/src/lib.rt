@@ -1,74 +1,57 @@
 // What every refusal says: which rule is broken, which layer found it, and where.
 #![tactic(auto)]
 
-ghost use Rattle.std.specs.Prelude.{◌≡◌};
-ghost use Rattle.faults.specs.Faults.{refusal_number, layer_name};
+ghost use Rattle.std.specs.Prelude.{◌≡◌, Some};
+ghost use Rattle.faults.specs.Faults.{refusal_number, layer_name, fault, fault_text};
+
+use std::fmt;
 
 /// A broken rule. `number` gives the number under which the rule is known outside.
 #[derive(Clone, Copy, PartialEq, Eq, Debug)]
 pub enum Refusal {
     /// 1: the link's stage does not allow this call.
-    NotAtThisStage,
+    NotAtThisStage = 1,
     /// 2: more than 4,096 modules.
-    TooManyModules,
+    TooManyModules = 2,
     /// 3: more than 32,768 records.
-    TooManyRecords,
+    TooManyRecords = 3,
     /// 4: fewer mark rows than modules.
-    MarksTooShort,
+    MarksTooShort = 4,
     /// 5: fewer arrows than records, or another work slice shorter than the modules.
-    WorkTooShort,
+    WorkTooShort = 5,
     /// 6: the runtime is not a normal module scanned as ESM.
-    RuntimeNotEsm,
+    RuntimeNotEsm = 6,
     /// 7: a record's target, or an arrow's end, past the end.
-    TargetPastEnd,
+    TargetPastEnd = 7,
     /// 8: `AtImport` or `UrlImport` to a normal module.
-    StyleImportOfNormal,
+    StyleImportOfNormal = 8,
     /// 9: a star that is not on an `Import` of a module scanned as ESM.
-    StarMisplaced,
+    StarMisplaced = 9,
     /// 10: the runtime is required.
-    RuntimeRequired,
+    RuntimeRequired = 10,
     /// 11: more than 64 entry modules.
-    TooManyEntries,
+    TooManyEntries = 11,
     /// 12: the result list is too short.
-    ResultsTooShort,
+    ResultsTooShort = 12,
     /// 13: an image of another length than it says, or a slice too short for it.
-    WrongLength,
+    WrongLength = 13,
     /// 14: a block's length or kind is wrong.
-    WrongBlockHead,
+    WrongBlockHead = 14,
     /// 15: a field outside its values, or an external module that is not blank.
-    FieldOutOfValues,
+    FieldOutOfValues = 15,
     /// 16: a module's records do not begin where those of the one before end.
-    WrongFirstRecord,
+    WrongFirstRecord = 16,
     /// 17: a 65th different number for a layer of external modules.
-    LayerFull,
+    LayerFull = 17,
     /// 18: an observer or importer past the source's end.
-    RowPastSource,
+    RowPastSource = 18,
 }
 
-impl Refusal {
-    pub fn number(self) -> u8
-        ensures { result ≡ refusal_number self }
-    {
-        match self {
-            Refusal::NotAtThisStage => 1,
-            Refusal::TooManyModules => 2,
-            Refusal::TooManyRecords => 3,
-            Refusal::MarksTooShort => 4,
-            Refusal::WorkTooShort => 5,
-            Refusal::RuntimeNotEsm => 6,
-            Refusal::TargetPastEnd => 7,
-            Refusal::StyleImportOfNormal => 8,
-            Refusal::StarMisplaced => 9,
-            Refusal::RuntimeRequired => 10,
-            Refusal::TooManyEntries => 11,
-            Refusal::ResultsTooShort => 12,
-            Refusal::WrongLength => 13,
-            Refusal::WrongBlockHead => 14,
-            Refusal::FieldOutOfValues => 15,
-            Refusal::WrongFirstRecord => 16,
-            Refusal::LayerFull => 17,
-            Refusal::RowPastSource => 18,
-        }
+impl From<Refusal> for u8 {
+    ghost from_gives = { λ rule number. number ≡ refusal_number rule };
+
+    fn from(rule: Refusal) -> u8 {
+        rule as u8
     }
 }
 
@@ -79,6 +62,27 @@ pub enum Layer {
     Source,
     Link,
     Interop,
+}
+
+impl fmt::Display for Layer {
+    ghost output = { λ l. Some (layer_name l) };
+
+    fn fmt<W: fmt::Write>(&self, f: &mut fmt::Formatter<W>) -> fmt::Result {
+        f.write_str(self.name())
+    }
+}
+
+impl Refusal {
+    /// A fault of this rule.
+    pub fn found_by(self, layer: Layer, at: usize, record: usize) -> Fault
+        ensures { result ≡ fault self layer at «record» }
+    {
+        Fault {
+            refusal: self,
+            layer,
+            place: Place { at, record },
+        }
+    }
 }
 
 impl Layer {
@@ -106,4 +110,17 @@ pub struct Fault {
     pub refusal: Refusal,
     pub layer: Layer,
     pub place: Place,
+}
+
+/// As `number=14 layer=card place=40,0`.
+impl fmt::Display for Fault {
+    ghost output = { λ f. Some (fault_text f) };
+
+    fn fmt<W: fmt::Write>(&self, f: &mut fmt::Formatter<W>) -> fmt::Result {
+        let number = u8::from(self.refusal);
+        let layer = self.layer;
+        let at = self.place.at;
+        let record = self.place.record;
+        write!(f, "number={number} layer={layer} place={at},{record}")
+    }
 }

@@ -7,11 +7,11 @@ use Rattle.faults.proofs.Checks.{accepted, accepted_if, accepted_first, accepted
 use Rattle.source.specs.declared.Module.{Module}
 use Rattle.source.specs.declared.NormalModule.{NormalModule}
 use Rattle.source.specs.declared.Module.TheVariants.{Normal}
-use Rattle.source.specs.Meaning.{Meaning, count_of, module_at, scanned_at, records_of, record_at, past_modules, past_records}
+use Rattle.source.specs.Meaning.{Meaning, count_of, module_at, scanned_at, records_of, record_at, past_modules, past_records, record_total}
 use Rattle.source.specs.Numbers.{module_limit, record_limit}
 use Rattle.marks.specs.declared.options.LinkOptions.{LinkOptions}
 use Rattle.marks.proofs.Records.{normal_below, points_in}
-use Rattle.ways.specs.Ways.{Targets, record_total}
+use Rattle.ways.specs.Ways.{Targets}
 use Rattle.lawful.specs.declared.check.Lent.{Lent}
 use Rattle.lawful.specs.Lawful.{link_fault, past_end, record_verdict, scanned_verdict, module_verdict, records_verdict, is_esm, work_short, since_runtime, since_work, since_marks, since_records, source_verdict}
 

@@ -26,11 +26,11 @@ use Rattle.source.specs.declared.ImportRecord.{ImportRecord}
 use Rattle.source.specs.declared.Module.{Module}
 use Rattle.source.specs.declared.Module.TheVariants.{External, Normal}
 use Rattle.source.specs.declared.NormalModule.{NormalModule}
-use Rattle.source.specs.Meaning.{Meaning, Scanned, count_of, module_at, record_at}
+use Rattle.source.specs.Meaning.{Meaning, Scanned, count_of, module_at, record_at, record_total}
 use Rattle.source.specs.Numbers.{module_limit, record_limit}
 use Rattle.marks.specs.declared.options.LinkOptions.{LinkOptions}
 use Rattle.marks.specs.Records.{NormalAt, Points, acts_as_require, ActsRequiring}
-use Rattle.ways.specs.Ways.{Targets, record_total}
+use Rattle.ways.specs.Ways.{Targets}
 use Rattle.lawful.specs.declared.check.Lent.{Lent}
 
 abbrev pub link_fault : Refusal → ℕ → ℕ → Fault

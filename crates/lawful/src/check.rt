@@ -1,33 +1,17 @@
 // Limits, lengths and the runtime, and then the records.
-ghost use Rattle.std.specs.Prelude.{◌≡◌, ◌<◌, ◌≤◌, MatchOption};
-ghost use Rattle.ways.specs.Ways.{record_total};
+ghost use Rattle.std.specs.Prelude.{◌≡◌};
 ghost use Rattle.lawful.specs.Lawful.{is_esm, work_short, source_verdict};
 
 use crate::records::{check_all_records, link_fault};
 use faults::{Fault, Refusal};
 use marks::LinkOptions;
-use source::{ExportsKind, MODULE_LIMIT, Module, ModuleSource, RECORD_LIMIT};
+use source::{ExportsKind, MODULE_LIMIT, Module, ModuleSource, count_records};
 
 /// How long the slices are that a call is lent: its marks, and its arrows and shortest other work slice if it works with any.
 #[derive(Clone, Copy)]
 pub struct Lent {
     pub marks: usize,
     pub work: Option<(usize, usize)>,
-}
-
-// How many records all the modules have, if they are within the limit.
-fn count_records<S: ModuleSource>(source: &S) -> Option<usize>
-    ensures { MatchOption result (32768 < record_total (S.meaning source.now)) (λ n. (n ≡ record_total (S.meaning source.now)) × (n ≤ 32768)) }
-{
-    let mut total: usize = 0;
-    for m in 0..source.module_count() {
-        let more = source.record_count(m);
-        if more > RECORD_LIMIT - total {
-            return None;
-        }
-        total += more;
-    }
-    Some(total)
 }
 
 fn is_esm(module: Module) -> bool

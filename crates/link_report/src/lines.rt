@@ -18,7 +18,7 @@ fn accepted(heap: Global, text: &mut String, name: &str) -> Result<(), AllocErro
 
 /// The line of a refused call, and what its rule says.
 pub fn refused_call(heap: Global, name: &str, fault: &Fault) -> Result<String, AllocError> {
-    let number = fault.refusal.number();
+    let number = u8::from(fault.refusal);
     let layer = fault.layer.name();
     let at = fault.place.at;
     let record = fault.place.record;

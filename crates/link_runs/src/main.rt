@@ -34,7 +34,7 @@ fn print_answer(
             } else {
                 "changed"
             };
-            let number = fault.refusal.number();
+            let number = u8::from(fault.refusal);
             let layer = fault.layer.name();
             let at = fault.place.at;
             let record = fault.place.record;

@@ -4,12 +4,13 @@
 --   Meaning         the runtime's number, and the modules by number
 --   Proper          an external module has no records; every target is below 2^32 - 1
 --   count_of        how many modules there are
+--   record_total    how many records there are, over all modules
 --   module_at, records_of, records_in, record_at, look_at   the look-ups: a module's description, its records,
 --                   their number, one of them, and that one's kind and target together
 --   no_modules      what stands for input that a check refuses: no modules, and 0 for the runtime
 --   past_modules    what a look-up finds past the last module: an external one
 --   past_records    what it finds past the last record: an unresolved `HotAccept` at 0 to 0 without star
-use Rattle.std.specs.Prelude.{◌≡◌, ℕ, ◌-◌, ◌^◌, ◌<◌, false, List, [], length, Some, None, Option, slice_index_or}
+use Rattle.std.specs.Prelude.{◌≡◌, ℕ, ◌-◌, ◌^◌, ◌<◌, false, List, [], length, sum_by, Some, None, Option, slice_index_or}
 use Rattle.source.specs.declared.ImportKind.{ImportKind}
 use Rattle.source.specs.declared.ImportKind.TheVariants.{HotAccept}
 use Rattle.source.specs.declared.ImportRecord.{ImportRecord}
@@ -38,6 +39,9 @@ count_of w = length w.modules
 
 abbrev pub scanned_at : Meaning → ℕ → Scanned
 scanned_at w m = slice_index_or w.modules m past_modules
+
+abbrev pub record_total : Meaning → ℕ
+record_total w = sum_by (λ (s : Scanned). length s.records) w.modules
 
 abbrev pub module_at : Meaning → ℕ → Module
 module_at w m = (scanned_at w m).described

@@ -1,9 +1,9 @@
 // The words of a link stage: modules, their records, and sources of them known by their meaning.
 #![tactic(auto)]
 
-ghost use Rattle.std.specs.Prelude.{◌≡◌};
-ghost use Rattle.source.specs.Meaning.{Meaning, Proper, count_of, module_at, records_in, record_at, look_at, past_records};
-ghost use Rattle.source.specs.Numbers.{exports_number, import_number};
+ghost use Rattle.std.specs.Prelude.{◌≡◌, ◌<◌, ◌≤◌, MatchOption};
+ghost use Rattle.source.specs.Meaning.{Meaning, Proper, count_of, module_at, records_in, record_at, look_at, past_records, record_total};
+ghost use Rattle.source.specs.Numbers.{exports_number, import_number, record_limit, ExportsNumbered, ImportNumbered};
 
 /// The most modules that a source may have.
 pub const MODULE_LIMIT: usize = 4096;
@@ -14,21 +14,36 @@ pub const RECORD_LIMIT: usize = 32768;
 #[derive(Clone, Copy, PartialEq, Eq, Debug)]
 pub enum ExportsKind {
     /// Neither `import`, `export` nor a use of `module` or `exports` tells.
-    None,
+    None = 0,
     /// `export const speed = 3;`
-    Esm,
+    Esm = 1,
     /// `module.exports = { speed: 3 };`
-    CommonJs,
+    CommonJs = 2,
 }
 
-impl ExportsKind {
-    pub fn number(self) -> u8
-        ensures { result ≡ exports_number self }
-    {
-        match self {
-            ExportsKind::None => 0,
-            ExportsKind::Esm => 1,
-            ExportsKind::CommonJs => 2,
+impl From<ExportsKind> for u8 {
+    ghost from_gives = { λ kind number. number ≡ exports_number kind };
+
+    fn from(kind: ExportsKind) -> u8 {
+        kind as u8
+    }
+}
+
+/// A number that stands for no kind.
+#[derive(Clone, Copy, PartialEq, Eq, Debug)]
+pub struct UnknownNumber(pub u8);
+
+impl TryFrom<u8> for ExportsKind {
+    type Error = UnknownNumber;
+
+    ghost try_from_gives = { ExportsNumbered };
+
+    fn try_from(number: u8) -> Result<ExportsKind, UnknownNumber> {
+        match number {
+            0 => Ok(ExportsKind::None),
+            1 => Ok(ExportsKind::Esm),
+            2 => Ok(ExportsKind::CommonJs),
+            _ => Err(UnknownNumber(number)),
         }
     }
 }
@@ -37,33 +52,44 @@ impl ExportsKind {
 #[derive(Clone, Copy, PartialEq, Eq, Debug)]
 pub enum ImportKind {
     /// `import { speed } from './bar.js';`
-    Import,
+    Import = 0,
     /// `require('./bar.js')`
-    Require,
+    Require = 1,
     /// `import('./bar.js')`
-    DynamicImport,
+    DynamicImport = 2,
     /// `@import 'bar.css';`
-    AtImport,
+    AtImport = 3,
     /// `url(bar.png)`
-    UrlImport,
+    UrlImport = 4,
     /// `new URL('./bar.png', import.meta.url)`
-    NewUrl,
+    NewUrl = 5,
     /// `import.meta.hot.accept('./bar.js')`
-    HotAccept,
+    HotAccept = 6,
 }
 
-impl ImportKind {
-    pub fn number(self) -> u8
-        ensures { result ≡ import_number self }
-    {
-        match self {
-            ImportKind::Import => 0,
-            ImportKind::Require => 1,
-            ImportKind::DynamicImport => 2,
-            ImportKind::AtImport => 3,
-            ImportKind::UrlImport => 4,
-            ImportKind::NewUrl => 5,
-            ImportKind::HotAccept => 6,
+impl From<ImportKind> for u8 {
+    ghost from_gives = { λ kind number. number ≡ import_number kind };
+
+    fn from(import: ImportKind) -> u8 {
+        import as u8
+    }
+}
+
+impl TryFrom<u8> for ImportKind {
+    type Error = UnknownNumber;
+
+    ghost try_from_gives = { ImportNumbered };
+
+    fn try_from(number: u8) -> Result<ImportKind, UnknownNumber> {
+        match number {
+            0 => Ok(ImportKind::Import),
+            1 => Ok(ImportKind::Require),
+            2 => Ok(ImportKind::DynamicImport),
+            3 => Ok(ImportKind::AtImport),
+            4 => Ok(ImportKind::UrlImport),
+            5 => Ok(ImportKind::NewUrl),
+            6 => Ok(ImportKind::HotAccept),
+            _ => Err(UnknownNumber(number)),
         }
     }
 }
@@ -186,4 +212,19 @@ impl<'a, S: ModuleSource> ModuleSource for &'a S {
     fn look(&self, m: usize, k: usize) -> (ImportKind, Option<u32>) {
         (**self).look(m, k)
     }
+}
+
+/// How many records all the modules have, if they are within the limit.
+pub fn count_records<S: ModuleSource>(source: &S) -> Option<usize>
+    ensures { MatchOption result (record_limit < record_total (S.meaning source.now)) (λ n. (n ≡ record_total (S.meaning source.now)) × (n ≤ record_limit)) }
+{
+    let mut total: usize = 0;
+    for m in 0..source.module_count() {
+        let more = source.record_count(m);
+        if more > RECORD_LIMIT - total {
+            return None;
+        }
+        total += more;
+    }
+    Some(total)
 }

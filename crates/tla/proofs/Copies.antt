@@ -5,10 +5,10 @@ use Rattle.std.proofs.lemmas.List.Sums.{sum_by-cons}
 use Rattle.std.proofs.lemmas.Bool.{cases_eq}
 use Rattle.std.specs.List.{flat_map}
 use Rattle.source.specs.declared.ImportRecord.{ImportRecord}
-use Rattle.source.specs.Meaning.{Meaning, Scanned, count_of, records_of, records_in, record_at, past_records}
+use Rattle.source.specs.Meaning.{Meaning, Scanned, count_of, records_of, records_in, record_at, past_records, record_total}
 use Rattle.marks.proofs.Records.{none_some}
 use Rattle.spread.specs.declared.arrow.Arrow.{Arrow}
-use Rattle.ways.specs.Ways.{is_import, record_total}
+use Rattle.ways.specs.Ways.{is_import}
 use Rattle.tla.specs.Search.{led_to, imports_in, imports_of, imports_before, Laid}
 use Rattle.tla.proofs.Segments.{scanned_imports, joined_append, before_more, before_fits}
 

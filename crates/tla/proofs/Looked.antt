@@ -4,11 +4,11 @@ use Rattle.std.proofs.lemmas.List.Sums.{get_or-le-sum_by}
 use Rattle.std.proofs.lemmas.Bool.{and_parts, and_right}
 use Rattle.source.specs.declared.ImportKind.{ImportKind}
 use Rattle.source.specs.declared.ImportKind.TheVariants.{Import, Require, DynamicImport, AtImport, UrlImport, NewUrl, HotAccept}
-use Rattle.source.specs.Meaning.{Meaning, Proper, Scanned, count_of, records_in, record_at, look_at, past_modules}
+use Rattle.source.specs.Meaning.{Meaning, Proper, Scanned, count_of, records_in, record_at, look_at, past_modules, record_total}
 use Rattle.marks.specs.Records.{Points}
 use Rattle.marks.proofs.Records.{target_looked, look_points}
 use Rattle.ways.specs.Targets.{is_require}
-use Rattle.ways.specs.Ways.{Targets, record_total}
+use Rattle.ways.specs.Ways.{Targets}
 use Rattle.tla.specs.Rows.{target_waits, gives_row}
 use Rattle.tla.proofs.Targets.{has_records}
 

@@ -5,10 +5,9 @@ use Rattle.std.proofs.lemmas.List.Sums.{sum_by-cons, sum_by_more, sum_by-take-le
 use Rattle.std.proofs.lemmas.Bool.{and_from}
 use Rattle.source.specs.declared.ImportKind.TheVariants.{Require}
 use Rattle.source.specs.declared.ImportRecord.{ImportRecord}
-use Rattle.source.specs.Meaning.{Meaning, Scanned, count_of, records_of, records_in, record_at, past_modules, past_records}
+use Rattle.source.specs.Meaning.{Meaning, Scanned, count_of, records_of, records_in, record_at, past_modules, past_records, record_total}
 use Rattle.marks.specs.Records.{Points}
 use Rattle.ways.specs.Targets.{is_require}
-use Rattle.ways.specs.Ways.{record_total}
 use Rattle.tla.specs.Rows.{target_waits, gives_row, rows_in, rows_before, row_place, row_total}
 
 module _ {X : Type 0} (f g : X → ℕ) where

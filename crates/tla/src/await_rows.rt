@@ -1,10 +1,10 @@
 // `require('./bar.js')` has its answer at once, so it cannot wait for an `await` that bar.js comes to. Each such record
 // gives a row.
 ghost use Rattle.std.specs.Prelude.{◌≡◌, ℕ, ◌<◌, ◌≤◌, ◌&&◌, length};
-ghost use Rattle.source.specs.Meaning.{count_of};
+ghost use Rattle.source.specs.Meaning.{count_of, record_total};
 ghost use Rattle.marks.specs.Passes.{Awaits};
 ghost use Rattle.ways.specs.Targets.{flag, Filled, is_require};
-ghost use Rattle.ways.specs.Ways.{Targets, record_total};
+ghost use Rattle.ways.specs.Ways.{Targets};
 ghost use Rattle.tla.specs.Rows.{await_span, row_total, RowOf, RowsWritten, RowCount, AwaitRows};
 ghost use Rattle.tla.specs.Search.{Laid};
 

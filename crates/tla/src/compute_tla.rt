@@ -1,10 +1,10 @@
 // `await load();` at the top level holds up whoever imports the module: an importer waits for what its imports lead to.
 ghost use Rattle.std.specs.Prelude.{◌≡◌, ◌≤◌, length};
-ghost use Rattle.source.specs.Meaning.{count_of};
+ghost use Rattle.source.specs.Meaning.{count_of, record_total};
 ghost use Rattle.marks.specs.declared.options.LinkOptions.{LinkOptions};
 ghost use Rattle.marks.specs.Passes.{Awaits, AwaitDid};
 ghost use Rattle.ways.specs.Targets.{Filled};
-ghost use Rattle.ways.specs.Ways.{Targets, record_total};
+ghost use Rattle.ways.specs.Ways.{Targets};
 ghost use Rattle.tla.specs.Awaiting.{has_await, AwaitAt};
 
 use marks::{Mark, MarkRow};

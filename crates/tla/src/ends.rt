@@ -1,7 +1,7 @@
 // The imports of all modules as arrows, by where those of each module end, and the search over them of search.rt.
 ghost use Rattle.std.specs.Prelude.{◌≡◌, [], ◌∷◌, ◌<◌, ◌≤◌, length};
-ghost use Rattle.source.specs.Meaning.{count_of};
-ghost use Rattle.ways.specs.Ways.{Targets, record_total};
+ghost use Rattle.source.specs.Meaning.{count_of, record_total};
+ghost use Rattle.ways.specs.Ways.{Targets};
 ghost use Rattle.tla.specs.Search.{Only, Searches, SourceOf, Told};
 ghost use Rattle.tla.specs.Once.{LaidByEnds, start_of};
 

@@ -1,10 +1,10 @@
 // The await rows with one search for each module that is asked for: what a search found is known from then on. The rows are
 // those of await_rows.rt.
 ghost use Rattle.std.specs.Prelude.{◌≡◌, ◌<◌, ◌≤◌, length};
-ghost use Rattle.source.specs.Meaning.{count_of};
+ghost use Rattle.source.specs.Meaning.{count_of, record_total};
 ghost use Rattle.marks.specs.Passes.{Awaits};
 ghost use Rattle.ways.specs.Targets.{flag, Filled};
-ghost use Rattle.ways.specs.Ways.{Targets, record_total};
+ghost use Rattle.ways.specs.Ways.{Targets};
 ghost use Rattle.tla.specs.Rows.{row_total, RowOf, RowsWritten, AwaitRows};
 ghost use Rattle.tla.specs.Once.{LaidByEnds, Known, WaitsFor};
 

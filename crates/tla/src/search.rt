@@ -1,7 +1,7 @@
 // The module whose `await` a module waits for: the first one found by following imports in order.
 ghost use Rattle.std.specs.Prelude.{◌≡◌, ◌<◌, ◌≤◌, [], ◌∷◌, length};
-ghost use Rattle.source.specs.Meaning.{count_of};
-ghost use Rattle.ways.specs.Ways.{Targets, is_import, record_total};
+ghost use Rattle.source.specs.Meaning.{count_of, record_total};
+ghost use Rattle.ways.specs.Ways.{Targets, is_import};
 ghost use Rattle.tla.specs.Search.{Laid, Only, Searches, SourceOf, Told};
 
 use crate::compute_tla::has_await;

@@ -59,7 +59,7 @@ impl From<ClassifyError> for TableError {
 
 fn told(fault: Fault) -> TuchovaiFault {
     TuchovaiFault {
-        number: u32::from(fault.refusal.number()),
+        number: u32::from(u8::from(fault.refusal)),
         layer: number_of_layer(fault.layer),
         at: fault.place.at as u64,
         record: fault.place.record as u64,

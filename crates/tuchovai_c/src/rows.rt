@@ -22,7 +22,7 @@ fn bytes_of(number: u32) -> [u8; 4]
 pub fn bytes_of_mark(row: MarkRow) -> [u8; 16]
     ensures { result ≡ mark_bytes row }
 {
-    let kind = row.kind.number();
+    let kind = u8::from(row.kind);
     let wrap = number_of_wrap(row.wrap);
     let required = number_of_flag(row.required);
     let dynamic = number_of_flag(row.dynamic);

@@ -4,14 +4,14 @@ use Rattle.std.proofs.lemmas.List.{get_or-set_same, get_or-set_other}
 use Rattle.std.proofs.lemmas.List.Sums.{sum_by_more, sum_by-take-le}
 use Rattle.std.proofs.lemmas.Bool.{cases_eq}
 use Rattle.source.specs.declared.ImportKind.{ImportKind}
-use Rattle.source.specs.Meaning.{Meaning, Scanned, count_of, records_in, past_modules}
+use Rattle.source.specs.Meaning.{Meaning, Scanned, count_of, records_in, past_modules, record_total}
 use Rattle.marks.specs.Records.{NormalAt}
 use Rattle.marks.proofs.Records.{points_in, normal_below}
 use Rattle.spread.specs.declared.arrow.Arrow.{Arrow}
 use Rattle.spread.specs.Leads.{no_arrow}
 use Rattle.ways.specs.declared.Way.{Way}
 use Rattle.ways.proofs.Sweeps.{Before}
-use Rattle.ways.specs.Ways.{Leaving, Step, drawn, record_total, All, CopiedUpTo}
+use Rattle.ways.specs.Ways.{Leaving, Step, drawn, All, CopiedUpTo}
 
 abbrev pub long : Scanned → ℕ
 long s = length s.records

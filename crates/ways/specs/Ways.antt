@@ -7,14 +7,13 @@
 --   Leading             a place leads to a place, in the direction that facts go
 --   drawn               the arrow of a record from a to t
 --   Targets             every target is a module
---   record_total        how many records there are, over all modules
 --   Copied              the first n arrows are those of the records that lead on
 --   Carried             what spreading along the records comes to
-use Rattle.std.specs.Prelude.{◌≡◌, ℕ, ◌<◌, ◌≤◌, Bool, true, false, not, ◌↔◌, List, length, sum_by, ◌==◌, slice_index_or}
+use Rattle.std.specs.Prelude.{◌≡◌, ℕ, ◌<◌, ◌≤◌, Bool, true, false, not, ◌↔◌, List, length, ◌==◌, slice_index_or}
 use Rattle.source.specs.declared.ImportKind.{ImportKind}
 use Rattle.source.specs.declared.ImportKind.TheVariants.{Import, Require, DynamicImport, AtImport, UrlImport, NewUrl, HotAccept}
 use Rattle.source.specs.declared.ImportRecord.{ImportRecord}
-use Rattle.source.specs.Meaning.{Meaning, Scanned, count_of, record_at}
+use Rattle.source.specs.Meaning.{Meaning, count_of, record_at}
 use Rattle.marks.specs.Records.{Points, Mentions, Leads}
 use Rattle.spread.specs.declared.arrow.Arrow.{Arrow}
 use Rattle.spread.specs.Leads.{no_arrow}
@@ -76,9 +75,6 @@ drawn way a t = turned (against way) a t
 
 abbrev pub Targets : Meaning → Type 0
 Targets w = (m t : ℕ) → Mentions w m t → t < count_of w
-
-abbrev pub record_total : Meaning → ℕ
-record_total w = sum_by (λ (s : Scanned). length s.records) w.modules
 
 -- the records that are copied so far are those in Done
 pub record CopiedUpTo (Done : ℕ → ℕ → Type 0) (way : Way) (w : Meaning) (rows : List Arrow) (n : ℕ) : Type 0 where

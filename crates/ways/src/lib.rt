@@ -2,8 +2,8 @@
 #![tactic(auto)]
 
 ghost use Rattle.std.specs.Prelude.{◌≡◌, ◌≤◌, length};
-ghost use Rattle.source.specs.Meaning.{count_of, record_at};
-ghost use Rattle.ways.specs.Ways.{is_import, brings, followed, drawn, record_total, Targets, Copied, Carried};
+ghost use Rattle.source.specs.Meaning.{count_of, record_at, record_total};
+ghost use Rattle.ways.specs.Ways.{is_import, brings, followed, drawn, Targets, Copied, Carried};
 
 mod targets;
 

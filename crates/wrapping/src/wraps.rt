@@ -1,12 +1,12 @@
 // A module that may run late, as at its first `require('./bar.js')`, stands in a wrapper, and so does whatever it pulls
 // along: `var require_bar = __commonJS((exports, module) => { .. });`, `var init_bar = __esm(() => { .. });`
 ghost use Rattle.std.specs.Prelude.{◌≡◌, ◌≤◌, true, ◌↔◌, length};
-ghost use Rattle.source.specs.Meaning.{count_of};
+ghost use Rattle.source.specs.Meaning.{count_of, record_total};
 ghost use Rattle.marks.specs.declared.options.LinkOptions.{LinkOptions};
 ghost use Rattle.marks.specs.Passes.{WrapDid};
 ghost use Rattle.marks.specs.Rows.{Written};
 ghost use Rattle.ways.specs.Targets.{Filled};
-ghost use Rattle.ways.specs.Ways.{Targets, record_total};
+ghost use Rattle.ways.specs.Ways.{Targets};
 ghost use Rattle.wrapping.specs.Wraps.{MayWrap, is_common, Starts, WrappedRow};
 
 use marks::{Mark, MarkRow};

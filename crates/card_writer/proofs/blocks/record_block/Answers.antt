@@ -9,7 +9,7 @@ returns c =
     let r = c.args.record in
     record {
       bytes = ap (λ (x : List ℕ). 18 ∷ 0 ∷ 3 ∷ 0 ∷ x)
-          (begun c.number-kind.ensures c.bit-star.ensures.value
+          (begun c.from-kind.ensures c.bit-star.ensures.value
           (two_more (spelled4 c.bytes_of.result c.target_number.result c.bytes_of.ensures.bytes ∙ ap le4 c.target_number.ensures)
           (two_more (spelled4 c.bytes_of-2.result r.span.start c.bytes_of-2.ensures.bytes)
           (spelled4 c.bytes_of-3.result r.span.end c.bytes_of-3.ensures.bytes))));

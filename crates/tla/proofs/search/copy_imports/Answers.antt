@@ -1,8 +1,8 @@
 use Rattle.std.proofs.Common.{ℕ, ◌+◌, ◌<◌, ◌≤◌, List, length, set, sym, refl, ap, ◌∙◌, subst, arith, rules}
-use Rattle.source.specs.Meaning.{count_of, records_in, record_at}
+use Rattle.source.specs.Meaning.{count_of, records_in, record_at, record_total}
 use Rattle.marks.proofs.Records.{kind_looked, target_looked}
 use Rattle.spread.specs.declared.arrow.Arrow.{Arrow}
-use Rattle.ways.specs.Ways.{is_import, record_total}
+use Rattle.ways.specs.Ways.{is_import}
 use Rattle.tla.proofs.Copies.{Copied, so_far, so_far_all, led_none, led_other, led_one, copied_over, copied_room, copied_push, begun_more, laid_all}
 use Rattle.tla.proofs.search.copy_imports.Goals as goal
 use Rattle.tla.proofs.search.copy_imports.Goals.{then-is_import, else-is_import}

@@ -5,7 +5,7 @@ use Rattle.tuchovai_c.proofs.rows.bytes_of_mark.Goals as goal
 pub returns : goal.returns
 returns c =
     let r = c.args.row in
-    begun c.number-kind.ensures c.number_of_wrap-wrap.ensures
+    begun c.from-kind.ensures c.number_of_wrap-wrap.ensures
     (begun c.number_of_flag-required.ensures c.number_of_flag-dynamic.ensures
     (begun c.number_of_flag-awaiting.ensures refl
     (begun refl refl

@@ -1,6 +1,6 @@
 use Rattle.std.proofs.Common.{◌≡◌, ◌≤◌, length, take, sum_by}
 use Rattle.source.specs.Meaning.{Scanned}
-use Rattle.lawful.proofs.check.count_records.Given as goal
+use Rattle.source.proofs.count_records.Given as goal
 
 abbrev pub invariant-loop-m : goal.invariant-loop-m
 invariant-loop-m g l =

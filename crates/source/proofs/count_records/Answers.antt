@@ -2,7 +2,7 @@ use Rattle.std.proofs.Common.{◌+◌, ◌<◌, length, sum_by, ap, ◌∙◌, a
 use Rattle.std.proofs.lemmas.List.{take_all}
 use Rattle.std.proofs.lemmas.List.Sums.{sum_by_more, sum_by-take-le}
 use Rattle.source.specs.Meaning.{Scanned, count_of, past_modules}
-use Rattle.lawful.proofs.check.count_records.Goals as goal
+use Rattle.source.proofs.count_records.Goals as goal
 
 pub returns-then-more-total : goal.returns-then-more-total
 returns-then-more-total g c =
