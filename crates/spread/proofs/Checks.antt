@@ -1,24 +1,19 @@
 -- What the verdict on the arrows says of them.
-use Rattle.std.proofs.Common.{◌≡◌, ℕ, zero, suc, ◌+◌, ◌<◌, Bool, true, false, leb, ◌⊎◌, List, [], ◌∷◌, length, get_or, drop, Ok, Err, sym, refl, ap, ◌∙◌, inl, inr, arith}
-use Rattle.std.proofs.lemmas.List.{at_drop_more}
+use Rattle.std.proofs.Common.{◌≡◌, ℕ, zero, suc, ◌+◌, ◌<◌, Bool, true, false, leb, ◌⊎◌, List, [], ◌∷◌, length, get_or, Ok, Err, sym, refl, ap, ◌∙◌, inl, inr, arith}
 use Rattle.std.proofs.lemmas.Bool.{or_cases, or_parts, leb-true, leb-false}
 use Rattle.faults.specs.declared.Fault.{Fault}
 use Rattle.faults.specs.declared.Layer.TheVariants.{Link}
 use Rattle.faults.specs.declared.Refusal.TheVariants.{TargetPastEnd}
-use Rattle.faults.specs.Faults.{Verdict, fault, refuse_if, and_then}
+use Rattle.faults.specs.Faults.{Verdict, fault, refuse_if, and_then, each}
 use Rattle.spread.specs.declared.arrow.Arrow.{Arrow}
 use Rattle.spread.specs.Leads.{Inside, AllInside, no_arrow}
-use Rattle.spread.specs.Spread.{ends_past, verdict_since, arrow_verdict, Accepted, Leaves}
+use Rattle.spread.specs.Spread.{ends_past, arrow_check, arrow_verdict, Accepted, Leaves}
 
 is_inside : (n : ℕ) (a : Arrow) → ends_past n a ≡ false → Inside n a
 is_inside n a e = let p = or_parts (leb n a.from) (leb n a.to) e in (leb-false n a.from p.0, leb-false n a.to p.1)
 
 is_past : (n : ℕ) (a : Arrow) → ends_past n a ≡ true → Inside n a → ⊥
 is_past n a e i = elim (or_cases (leb n a.from) (leb n a.to) e) [ inl f ↦ omega (arith, leb-true n a.from f) | inr f ↦ omega (arith, leb-true n a.to f) ]
-
--- one row more: it decides where an end is past, and else the next rows do
-pub row_next : (n : ℕ) (arrows : List Arrow) (row : ℕ) → row < length arrows → (past : Bool) → ends_past n (get_or arrows row no_arrow) ≡ past → verdict_since n row (drop row arrows) ≡ and_then (refuse_if past (fault TargetPastEnd Link row 0)) (verdict_since n (row + 1) (drop (row + 1) arrows))
-row_next n arrows row h past e = at_drop_more (verdict_since n row) arrows row no_arrow h ∙ ap (λ (b : Bool). and_then (refuse_if b (fault TargetPastEnd Link row 0)) (verdict_since n (row + 1) (drop (row + 1) arrows))) e
 
 -- a check and the next: both accept, or the first that refuses decides
 accept_both : (b : Bool) (f : Fault) (next : Verdict) → and_then (refuse_if b f) next ≡ Ok tt → (b ≡ false) × (next ≡ Ok tt)
@@ -29,7 +24,7 @@ refuse_one : (b : Bool) (f g : Fault) (next : Verdict) → and_then (refuse_if b
 refuse_one true f g next e = inl (refl, cc)
 refuse_one false f g next e = inr (refl, e)
 
-all_inside : (n row : ℕ) (xs : List Arrow) → verdict_since n row xs ≡ Ok tt → AllInside n xs
+all_inside : (n row : ℕ) (xs : List Arrow) → each (arrow_check n) row xs ≡ Ok tt → AllInside n xs
 all_inside n row [] e i h = absurd (omega arith)
 all_inside n row (a ∷ xs) e zero h = is_inside n a (accept_both (ends_past n a) _ _ e).0
 all_inside n row (a ∷ xs) e (suc i) h = all_inside n (row + 1) xs (accept_both (ends_past n a) _ _ e).1 i (omega arith)
@@ -47,10 +42,10 @@ later n a xs k inside p = record { row = omega (arith, p.row); past = p.past; fi
     before zero h = inside
     before (suc i) h = p.first i (omega arith)
 
-first_past : (n row : ℕ) (xs : List Arrow) (f : Fault) → verdict_since n row xs ≡ Err f → (k : ℕ) × (f.place.at ≡ row + k) × FirstPast n xs k
+first_past : (n row : ℕ) (xs : List Arrow) (f : Fault) → each (arrow_check n) row xs ≡ Err f → (k : ℕ) × (f.place.at ≡ row + k) × FirstPast n xs k
 first_past n row [] f e = absurd (let z : ◌≡◌ {A = ℕ} 0 1 = cc in omega arith)
 first_past n row (a ∷ xs) f e =
-    elim (refuse_one (ends_past n a) (fault TargetPastEnd Link row 0) f (verdict_since n (row + 1) xs) e) [
+    elim (refuse_one (ends_past n a) (fault TargetPastEnd Link row 0) f (each (arrow_check n) (row + 1) xs) e) [
       | inl now ↦ (0, omega (arith, ap (λ (g : Fault). g.place.at) now.1), record { row = omega arith; past = is_past n a now.0; first = λ i h. absurd (omega arith) })
       | inr on ↦ (let p = first_past n (row + 1) xs f on.1 in (suc p.0, omega (arith, p.1), later n a xs p.0 (is_inside n a on.0) p.2))
     ]

@@ -1,5 +1,5 @@
 -- One step of a sweep.
-use Rattle.std.proofs.Common.{◌≡◌, ℕ, ◌+◌, ◌-◌, ◌<◌, ◌≤◌, Bool, false, ◌⊎◌, List, length, get_or, set, sym, refl, ap, ◌∙◌, subst, inl, inr, arith}
+use Rattle.std.proofs.Common.{◌≡◌, ℕ, ◌+◌, ◌<◌, Bool, false, ◌⊎◌, List, length, get_or, set, sym, refl, ap, ◌∙◌, subst, inl, inr, arith}
 use Rattle.std.proofs.lemmas.List.{get_or-set_same, get_or-set_other, set-get_or, length-set}
 use Rattle.std.proofs.lemmas.Bool.{cases_eq}
 use Rattle.spread.specs.declared.arrow.Arrow.{Arrow}
@@ -77,6 +77,3 @@ module _ {F : Type 0} {zero : F} {join : F → F → F} (laws : Lattice zero joi
 -- a row that is done after one more is that one, or was done before
 pub until_split : (i j : ℕ) → j < i + 1 → (j < i) ⊎ (j ≡ i)
 until_split i j h = elim (cases_eq j i) [ inl e ↦ inr e | inr n ↦ inl (omega arith) ]
-
-pub since_split : (i j : ℕ) → i - 1 ≤ j → (i ≤ j) ⊎ (j ≡ i - 1)
-since_split i j h = elim (cases_eq j (i - 1)) [ inl e ↦ inr e | inr n ↦ inl (omega arith) ]

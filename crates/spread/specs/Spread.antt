@@ -3,18 +3,18 @@
 --   Made             a fact is the join of some of the starting facts that lead to a place
 --   Spread           each place ends with the join of all starting facts that lead there
 --   ends_past        an end of an arrow is past the places
---   arrow_verdict    the first row that has such an end is refused; accepted where there is none
---   verdict_since    so of the rows from one on
+--   arrow_check      a row that has such an end is refused
+--   arrow_verdict    the first such row is refused; accepted where there is none
 --   Accepted         each row is inside, and the facts have spread
 --   Refused          the fault names the first row that is not inside, and the facts are as they were
 --   Leaves           one of the two, by the answer
 --
 -- x covers y where joining y to x gives x.
-use Rattle.std.specs.Prelude.{◌≡◌, ℕ, ◌+◌, ◌<◌, Bool, ◌||◌, List, [], ◌∷◌, length, Ok, Err, nat_le, slice_index_or}
+use Rattle.std.specs.Prelude.{◌≡◌, ℕ, ◌<◌, Bool, ◌||◌, List, length, Ok, Err, nat_le, slice_index_or}
 use Rattle.faults.specs.declared.Fault.{Fault}
 use Rattle.faults.specs.declared.Layer.TheVariants.{Link}
 use Rattle.faults.specs.declared.Refusal.TheVariants.{TargetPastEnd}
-use Rattle.faults.specs.Faults.{Verdict, fault, refuse_if, and_then}
+use Rattle.faults.specs.Faults.{Verdict, fault, refuse_if, each}
 use Rattle.spread.specs.declared.arrow.Arrow.{Arrow}
 use Rattle.spread.specs.Leads.{Leads, Inside, AllInside, no_arrow}
 
@@ -33,12 +33,11 @@ pub record Spread {F : Type 0} (zero : F) (join : F → F → F) (arrows : List 
 abbrev pub ends_past : ℕ → Arrow → Bool
 ends_past n a = nat_le n a.from || nat_le n a.to
 
-abbrev pub verdict_since : ℕ → ℕ → List Arrow → Verdict
-verdict_since n row [] = Ok tt
-verdict_since n row (a ∷ rest) = and_then (refuse_if (ends_past n a) (fault TargetPastEnd Link row 0)) (verdict_since n (row + 1) rest)
+abbrev pub arrow_check : ℕ → ℕ → Arrow → Verdict
+arrow_check n row a = refuse_if (ends_past n a) (fault TargetPastEnd Link row 0)
 
 abbrev pub arrow_verdict : ℕ → List Arrow → Verdict
-arrow_verdict n arrows = verdict_since n 0 arrows
+arrow_verdict n arrows = each (arrow_check n) 0 arrows
 
 pub record Accepted {F : Type 0} (zero : F) (join : F → F → F) (arrows : List Arrow) (start end : List F) : Type 0 where
   pub inside : AllInside (length start) arrows

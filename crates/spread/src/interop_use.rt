@@ -17,6 +17,8 @@ impl Fact for Option<InteropUse> {
 
     ghost join = { use_join };
 
+    ghost exact = { Prim.search rules };
+
     ghost assoc = { Prim.search rules };
 
     ghost comm = { Prim.search rules };
@@ -37,14 +39,6 @@ impl Fact for Option<InteropUse> {
                 node: a.node | b.node,
                 non_node: a.non_node | b.non_node,
             }),
-        }
-    }
-
-    fn same(self, other: Option<InteropUse>) -> bool {
-        match (self, other) {
-            (None, None) => true,
-            (Some(a), Some(b)) => a.node == b.node && a.non_node == b.non_node,
-            _ => false,
         }
     }
 }

@@ -7,7 +7,7 @@ ghost use Rattle.spread.specs.Sweep.{carried, Swept, Each};
 
 use crate::arrow::Arrow;
 use crate::fact::Fact;
-use faults::{Fault, Layer, Place, Refusal};
+use faults::{Fault, Layer, Refusal};
 
 // Whether an end of the arrow is past the places.
 fn ends_past(places: usize, arrow: Arrow) -> bool
@@ -22,11 +22,7 @@ fn check_arrows(places: usize, arrows: &[Arrow]) -> Result<(), Fault>
 {
     for (row, arrow) in arrows.iter().enumerate() {
         if ends_past(places, *arrow) {
-            return Err(Fault {
-                refusal: Refusal::TargetPastEnd,
-                layer: Layer::Link,
-                place: Place { at: row, record: 0 },
-            });
+            return Err(Refusal::TargetPastEnd.found_by(Layer::Link, row, 0));
         }
     }
     Ok(())
@@ -42,7 +38,7 @@ fn carry<F: Fact>(facts: &mut [F], arrow: Arrow) -> bool
     let old = facts[to];
     let new = old.joined(facts[arrow.from as usize]);
     facts[to] = new;
-    !old.same(new)
+    old != new
 }
 
 // Takes each arrow once, first to last, and says whether a fact changed.
@@ -64,8 +60,8 @@ fn sweep_backward<F: Fact>(facts: &mut [F], arrows: &[Arrow]) -> bool
     ensures { Swept F.zero F.join arrows.now Each facts.old facts.new result }
 {
     let mut changed = false;
-    for row in (0..arrows.len()).rev() {
-        let moved = carry(facts, arrows[row]);
+    for last in arrows.iter().rev() {
+        let moved = carry(facts, *last);
         changed |= moved;
     }
     changed

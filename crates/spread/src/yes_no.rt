@@ -13,6 +13,8 @@ impl Fact for YesNo {
 
     ghost join = { either };
 
+    ghost exact = { Prim.search rules };
+
     ghost assoc = { Prim.search rules };
 
     ghost comm = { Prim.search rules };
@@ -27,9 +29,5 @@ impl Fact for YesNo {
 
     fn joined(self, other: YesNo) -> YesNo {
         YesNo(self.0 | other.0)
-    }
-
-    fn same(self, other: YesNo) -> bool {
-        self.0 == other.0
     }
 }
