@@ -10,7 +10,7 @@ use Rattle.source.specs.declared.Module.{Module}
 use Rattle.source.specs.declared.Module.TheVariants.{External, Normal}
 use Rattle.source.specs.Meaning.{Meaning}
 use Rattle.marks.specs.declared.rows.MarkRow.{MarkRow}
-use Rattle.marks.specs.Marks.{read_row, with_dynamic}
+use Rattle.marks.specs.Rules.{read_row, with_dynamic}
 use Rattle.marks.specs.Records.{ExternalAt, HasStar}
 use Rattle.marks.specs.Rows.{kind_in}
 use Rattle.spread.specs.declared.yes_no.YesNo.{YesNo}

@@ -6,7 +6,7 @@
 use Rattle.std.specs.Prelude.{◌≡◌, ℕ, ◌<◌, cond, List, get_or, slice_index_or}
 use Rattle.source.specs.Meaning.{Meaning, module_at}
 use Rattle.marks.specs.declared.rows.MarkRow.{MarkRow}
-use Rattle.marks.specs.Marks.{read_row, with_entries}
+use Rattle.marks.specs.Rules.{read_row, with_entries}
 use Rattle.marks.specs.Passes.{is_entry, rank}
 use Rattle.spread.specs.declared.entry_set.EntrySet.{EntrySet}
 use Rattle.spread.specs.Kinds.{no_entry, single_entry}

@@ -6,8 +6,7 @@ use Rattle.source.specs.declared.ExportsKind.TheVariants.{None as Unknown, Esm, 
 use Rattle.marks.specs.declared.rows.MarkRow.{MarkRow}
 use Rattle.marks.specs.declared.rows.WrapKind.{WrapKind}
 use Rattle.marks.specs.declared.rows.WrapKind.TheVariants.{None as Unwrapped, Cjs as AsCjs, Esm as AsEsm}
-use Rattle.marks.specs.Rules.{agrees, is_wrapped, wrap_of, read_wrap, cleared}
-use Rattle.marks.specs.Marks.{read_row}
+use Rattle.marks.specs.Rules.{agrees, is_wrapped, wrap_of, read_wrap, cleared, read_row}
 use Rattle.marks.specs.Rows.{row_at, keeps_rule, Raised}
 
 -- a row reads as wrapped

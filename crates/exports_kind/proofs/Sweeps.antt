@@ -12,7 +12,7 @@ use Rattle.source.specs.Meaning.{Meaning, count_of, module_at, records_of, recor
 use Rattle.marks.specs.declared.options.LinkOptions.{LinkOptions}
 use Rattle.marks.specs.declared.rows.MarkRow.{MarkRow}
 use Rattle.marks.specs.Records.{NormalAt, Points, acts_as_require}
-use Rattle.marks.specs.Marks.{read_row}
+use Rattle.marks.specs.Rules.{read_row}
 use Rattle.marks.specs.Rows.{row_at, kind_in, wrapped_in, keeps_rule}
 use Rattle.marks.specs.Kinds.{or_else, makes, is_target, records_scanned, first_made, ripe}
 use Rattle.marks.specs.Passes.{KindsWraps, KindsDid}

@@ -11,7 +11,7 @@ use Rattle.marks.specs.declared.options.LinkOptions.{LinkOptions}
 use Rattle.marks.specs.declared.rows.MarkRow.{MarkRow}
 use Rattle.marks.specs.declared.rows.WrapKind.{WrapKind}
 use Rattle.marks.specs.Records.{acts_as_require}
-use Rattle.marks.specs.Marks.{read_row, marked_row}
+use Rattle.marks.specs.Rules.{read_row, marked_row}
 use Rattle.marks.specs.Rows.{keeps_rule}
 use Rattle.marks.specs.Kinds.{or_else, makes, importer_rule}
 use Rattle.exports_kind.specs.Steps.{after_record, after_importer, after_importer_of}

@@ -11,8 +11,7 @@ use Rattle.source.specs.declared.NormalModule.{NormalModule}
 use Rattle.marks.specs.declared.options.LinkOptions.{LinkOptions}
 use Rattle.marks.specs.declared.rows.MarkRow.{MarkRow}
 use Rattle.marks.specs.Records.{acts_as_require}
-use Rattle.marks.specs.Rules.{is_wrapped}
-use Rattle.marks.specs.Marks.{read_row, marked_row}
+use Rattle.marks.specs.Rules.{is_wrapped, read_row, marked_row}
 use Rattle.marks.specs.Rows.{row_at}
 use Rattle.marks.specs.Kinds.{or_else, makes, importer_rule}
 

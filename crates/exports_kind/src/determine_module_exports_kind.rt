@@ -1,7 +1,6 @@
 // Records settle the kinds of the modules that they are resolved to; what is required is wrapped, and CommonJS importers are.
 ghost use Rattle.std.specs.Prelude.{◌≡◌, ◌≤◌, length};
 ghost use Rattle.source.specs.Meaning.{count_of};
-ghost use Rattle.marks.specs.Marks.{row_of};
 ghost use Rattle.marks.specs.Records.{acts_as_require};
 ghost use Rattle.marks.specs.Kinds.{or_else, makes, importer_rule};
 ghost use Rattle.marks.specs.Passes.{KindsDid};
@@ -45,7 +44,7 @@ fn promoted_kind(options: LinkOptions, importee: NormalModule, kind: ImportKind)
 
 // What is required is wrapped by its kind: `var require_bar = __commonJS(..);` or `var init_bar = __esm(..);`
 fn mark_importee(options: LinkOptions, importee: NormalModule, kind: ImportKind, mark: Mark) -> Mark
-    ensures { row_of result ≡ after_record options importee kind (row_of mark) }
+    ensures { result ≡ after_record options importee kind mark }
 {
     let promoted = or_else(mark.kind(), promoted_kind(options, importee, kind));
     mark.marked(
@@ -68,7 +67,7 @@ fn importer_rule(options: LinkOptions, importer: NormalModule) -> bool
 
 // The importer rule is for CommonJS modules alone, and looks at the kind after the module's own records.
 fn mark_importer(options: LinkOptions, importer: NormalModule, mark: Mark) -> Mark
-    ensures { row_of result ≡ after_importer options importer (row_of mark) }
+    ensures { result ≡ after_importer options importer mark }
 {
     match mark.kind() {
         ExportsKind::CommonJs => mark.marked(

@@ -1,6 +1,5 @@
 pub mod Names
 pub mod Rules
-pub mod Marks
 pub mod Rows
 pub mod Records
 pub mod Kinds

@@ -1,7 +1,11 @@
 // How the bundle is to be made.
+ghost use Rattle.std.specs.Prelude.{◌≡◌};
+ghost use Rattle.marks.specs.Records.{acts_as_require};
+
+use source::ImportKind;
 
 /// What the bundle is written as.
-#[derive(Clone, Copy)]
+#[derive(Clone, Copy, PartialEq, Eq, Debug)]
 pub enum OutputFormat {
     /// `export { .. };`
     Esm,
@@ -13,7 +17,7 @@ pub enum OutputFormat {
     Umd,
 }
 
-#[derive(Clone, Copy)]
+#[derive(Clone, Copy, PartialEq, Eq, Debug)]
 pub struct LinkOptions {
     pub format: OutputFormat,
     /// `import()` pulls its target into the same file.
@@ -24,4 +28,17 @@ pub struct LinkOptions {
     pub manual_groups: bool,
     /// Wrappers carry the module's name.
     pub profiler_names: bool,
+}
+
+impl LinkOptions {
+    /// `require('./bar.js')`, and `import('./bar.js')` where it pulls its target into the same file.
+    pub fn acts_as_require(self, kind: ImportKind) -> bool
+        ensures { result ≡ acts_as_require self kind }
+    {
+        match kind {
+            ImportKind::Require => true,
+            ImportKind::DynamicImport => self.splitting_off,
+            _ => false,
+        }
+    }
 }

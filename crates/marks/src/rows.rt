@@ -30,7 +30,7 @@ pub struct MarkRow {
 }
 
 /// A helper of the runtime that makes a wrapper.
-#[derive(Clone, Copy)]
+#[derive(Clone, Copy, PartialEq, Eq, Debug)]
 pub enum Helper {
     CommonJs,
     CommonJsMin,
@@ -52,7 +52,7 @@ impl Helper {
 }
 
 /// A wrapper to be written: `var require_bar = __commonJS(..);`
-#[derive(Clone, Copy)]
+#[derive(Clone, Copy, PartialEq, Eq, Debug)]
 pub struct WrapperRow {
     pub module: u32,
     pub wrap: WrapKind,
@@ -62,7 +62,7 @@ pub struct WrapperRow {
 }
 
 /// A `require` of a module that awaits, and the `await` that it comes to.
-#[derive(Clone, Copy)]
+#[derive(Clone, Copy, PartialEq, Eq, Debug)]
 pub struct AwaitRow {
     pub importer: u32,
     pub record: u32,

@@ -15,11 +15,10 @@ use Rattle.marks.specs.declared.options.LinkOptions.{LinkOptions}
 use Rattle.marks.specs.declared.rows.MarkRow.{MarkRow}
 use Rattle.marks.specs.declared.rows.WrapperRow.{WrapperRow}
 use Rattle.marks.specs.Kinds.{settled_kind}
-use Rattle.marks.specs.Marks.{read_row}
+use Rattle.marks.specs.Rules.{read_row, is_wrapped, wrap_of}
 use Rattle.marks.specs.Passes.{StrictWraps, FinishDid}
 use Rattle.marks.specs.Records.{NormalAt}
 use Rattle.marks.specs.Rows.{row_at, kind_in, wrapped_in, Raised}
-use Rattle.marks.specs.Rules.{is_wrapped, wrap_of}
 use Rattle.marks.proofs.Records.{normal_below}
 use Rattle.wrappers.specs.Wrappers.{strict_wraps, ends_wrapped, wrapper_row}
 use Rattle.lawful.specs.Lawful.{Lawful}

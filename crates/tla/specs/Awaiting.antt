@@ -7,7 +7,7 @@ use Rattle.source.specs.declared.Module.{Module}
 use Rattle.source.specs.declared.Module.TheVariants.{External, Normal}
 use Rattle.source.specs.Meaning.{Meaning, module_at}
 use Rattle.marks.specs.declared.rows.MarkRow.{MarkRow}
-use Rattle.marks.specs.Marks.{read_row, with_awaiting}
+use Rattle.marks.specs.Rules.{read_row, with_awaiting}
 use Rattle.spread.specs.declared.yes_no.YesNo.{YesNo}
 use Rattle.ways.specs.Targets.{flag}
 

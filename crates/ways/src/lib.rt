@@ -3,10 +3,12 @@
 
 ghost use Rattle.std.specs.Prelude.{◌≡◌, ◌≤◌, length};
 ghost use Rattle.source.specs.Meaning.{count_of, record_at, record_total};
-ghost use Rattle.ways.specs.Ways.{is_import, brings, followed, drawn, Targets, Copied, Carried};
+ghost use Rattle.ways.specs.Ways.{followed, drawn, Copied, Carried};
 
+mod linkable;
 mod targets;
 
+pub use linkable::{Checked, Linkable};
 use source::{ImportKind, Module, ModuleSource};
 use spread::{Arrow, Fact, spread};
 pub use targets::{Pick, clear, point_at};
@@ -32,26 +34,8 @@ fn follows<S: ModuleSource>(source: &S, way: Way, m: usize, k: usize, kind: Impo
     match way {
         Way::Stars => source.record(m, k).star,
         Way::Wrappers => m != source.runtime() as usize,
-        Way::Awaits => is_import(kind),
-        Way::Entries => brings_along(kind),
-    }
-}
-
-fn is_import(kind: ImportKind) -> bool
-    ensures { result ≡ is_import kind }
-{
-    match kind {
-        ImportKind::Import => true,
-        _ => false,
-    }
-}
-
-fn brings_along(kind: ImportKind) -> bool
-    ensures { result ≡ brings kind }
-{
-    match kind {
-        ImportKind::Import | ImportKind::Require => true,
-        _ => false,
+        Way::Awaits => kind == ImportKind::Import,
+        Way::Entries => matches!(kind, ImportKind::Import | ImportKind::Require),
     }
 }
 
@@ -66,9 +50,8 @@ fn draw(way: Way, m: u32, t: u32) -> Arrow
 }
 
 // Every record that leads on, as an arrow; the answer is how many there are.
-fn copy_arrows<S: ModuleSource>(source: &S, way: Way, arrows: &mut [Arrow]) -> usize
-    requires small { count_of (S.meaning source.now) ≤ 4096 }
-    requires room { record_total (S.meaning source.now) ≤ length arrows.old }
+fn copy_arrows<S: Linkable>(source: &S, way: Way, arrows: &mut [Arrow]) -> usize
+    requires { record_total (S.meaning source.now) ≤ length arrows.old }
     ensures { Copied way (S.meaning source.now) arrows.new result }
 {
     let mut n: usize = 0;
@@ -91,16 +74,14 @@ fn copy_arrows<S: ModuleSource>(source: &S, way: Way, arrows: &mut [Arrow]) -> u
 }
 
 /// Brings each fact to wherever the records lead from its module.
-pub fn spread_along<S: ModuleSource, F: Fact>(
+pub fn spread_along<S: Linkable, F: Fact>(
     source: &S,
     way: Way,
     facts: &mut [F],
     arrows: &mut [Arrow],
 )
-    requires small { count_of (S.meaning source.now) ≤ 4096 }
     requires facts { count_of (S.meaning source.now) ≤ length facts.old }
     requires room { record_total (S.meaning source.now) ≤ length arrows.old }
-    requires targets { Targets (S.meaning source.now) }
     ensures { Carried F.zero F.join way (S.meaning source.now) facts.old facts.new }
 {
     let n = copy_arrows(source, way, arrows);

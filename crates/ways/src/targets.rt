@@ -1,9 +1,9 @@
 // Flags at the targets of records.
 ghost use Rattle.std.specs.Prelude.{◌≡◌, ℕ, ◌<◌, ◌≤◌, false, length};
 ghost use Rattle.source.specs.Meaning.{count_of, record_at};
-ghost use Rattle.ways.specs.Ways.{Targets};
-ghost use Rattle.ways.specs.Targets.{flag, is_normal, is_require, picked, PointedAt, Cleared};
+ghost use Rattle.ways.specs.Targets.{flag, picked, PointedAt, Cleared};
 
+use crate::linkable::Linkable;
 use source::{ImportKind, Module, ModuleSource};
 use spread::YesNo;
 
@@ -16,24 +16,6 @@ pub enum Pick {
     Stars,
     /// `Require` records to a normal module, and to an external one from an importer with a yes, the runtime aside.
     Required,
-}
-
-fn is_normal(module: Module) -> bool
-    ensures { result ≡ is_normal «module» }
-{
-    match module {
-        Module::External => false,
-        Module::Normal(_) => true,
-    }
-}
-
-fn is_require(kind: ImportKind) -> bool
-    ensures { result ≡ is_require kind }
-{
-    match kind {
-        ImportKind::Require => true,
-        _ => false,
-    }
 }
 
 // Whether record k of module m, of this kind and to this target, raises the flag there.
@@ -53,8 +35,9 @@ fn picks<S: ModuleSource>(
     match pick {
         Pick::Every => true,
         Pick::Stars => source.record(m, k).star,
-        Pick::Required => is_require(kind)
-            & (is_normal(source.module(t)) | ((m != source.runtime() as usize) & from[m].0)),
+        Pick::Required => (kind == ImportKind::Require)
+            & (matches!(source.module(t), Module::Normal(_))
+                | ((m != source.runtime() as usize) & from[m].0)),
     }
 }
 
@@ -63,16 +46,13 @@ pub fn clear<S: ModuleSource>(source: &S, flags: &mut [YesNo])
     requires { count_of (S.meaning source.now) ≤ length flags.old }
     ensures { Cleared (count_of (S.meaning source.now)) flags.old flags.new }
 {
-    for m in 0..source.module_count() {
-        flags[m] = YesNo(false);
-    }
+    flags[..source.module_count()].fill(YesNo(false));
 }
 
 /// Raises the flag at the target of every record that is picked.
-pub fn point_at<S: ModuleSource>(source: &S, pick: Pick, from: &[YesNo], flags: &mut [YesNo])
+pub fn point_at<S: Linkable>(source: &S, pick: Pick, from: &[YesNo], flags: &mut [YesNo])
     requires from { count_of (S.meaning source.now) ≤ length from.now }
     requires flags { count_of (S.meaning source.now) ≤ length flags.old }
-    requires targets { Targets (S.meaning source.now) }
     ensures { PointedAt pick (S.meaning source.now) (flag from.now) flags.old flags.new }
 {
     for m in 0..source.module_count() {

@@ -16,9 +16,8 @@ use Rattle.marks.specs.declared.rows.Helper.TheVariants as helper
 use Rattle.marks.specs.declared.rows.MarkRow.{MarkRow}
 use Rattle.marks.specs.declared.rows.WrapKind.TheVariants as wrap
 use Rattle.marks.specs.declared.rows.WrapperRow.{WrapperRow}
-use Rattle.marks.specs.Marks.{read_row, marked_row}
+use Rattle.marks.specs.Rules.{read_row, marked_row, is_wrapped}
 use Rattle.marks.specs.Rows.{row_at}
-use Rattle.marks.specs.Rules.{is_wrapped}
 
 abbrev pub strict_wraps : LinkOptions → Module → ExportsKind → Bool
 strict_wraps o External kind = false

@@ -4,7 +4,7 @@ ghost use Rattle.source.specs.Meaning.{count_of};
 ghost use Rattle.marks.specs.Kinds.{kind_scanned};
 ghost use Rattle.marks.specs.Passes.{BeginDid};
 
-use marks::{Mark, MarkRow};
+use marks::{Mark, MarkRow, write_front};
 use source::{ExportsKind, Module, ModuleSource};
 
 fn scanned_kind(module: Module) -> ExportsKind
@@ -21,7 +21,9 @@ pub fn begin_rows<S: ModuleSource>(source: &S, rows: &mut [MarkRow])
     requires { count_of (S.meaning source.now) ≤ length rows.old }
     ensures { BeginDid (S.meaning source.now) rows.old rows.new }
 {
-    for m in 0..source.module_count() {
-        rows[m] = Mark::of_kind(scanned_kind(source.module(m))).row();
-    }
+    write_front(
+        rows,
+        source.module_count(),
+        |m, _| Mark::of_kind(scanned_kind(source.module(m))).row(),
+    );
 }

@@ -3,10 +3,9 @@
 ghost use Rattle.std.specs.Prelude.{◌≡◌, ◌≤◌, ◌++◌, length, drop};
 ghost use Rattle.source.specs.Meaning.{count_of, module_at};
 ghost use Rattle.marks.specs.Passes.{FinishDid};
-ghost use Rattle.marks.specs.Marks.{row_of};
 ghost use Rattle.wrappers.specs.Wrappers.{strict_wraps, ends_wrapped, wrapper_row, wrapper_rows};
 
-use marks::{Helper, LinkOptions, Mark, MarkRow, WrapKind, WrapperRow};
+use marks::{Helper, LinkOptions, Mark, MarkRow, WrapKind, WrapperRow, write_front};
 use source::{ExportsKind, Module, ModuleSource};
 
 // Strict order with manual groups wraps every normal CommonJS module.
@@ -100,10 +99,10 @@ pub fn finish_rows<S: ModuleSource>(source: &S, options: LinkOptions, rows: &mut
     requires { count_of (S.meaning source.now) ≤ length rows.old }
     ensures { FinishDid (S.meaning source.now) options rows.old rows.new }
 {
-    for m in 0..source.module_count() {
-        let mark = Mark::read(rows[m]);
+    write_front(rows, source.module_count(), |m, row| {
+        let mark = Mark::read(row);
         let kind = mark.kind();
         let strict = strict_wraps(options, source.module(m), kind);
-        rows[m] = mark.marked(kind, mark.is_wrapped() | strict).row();
-    }
+        mark.marked(kind, mark.is_wrapped() | strict).row()
+    });
 }

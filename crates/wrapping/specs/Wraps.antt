@@ -9,10 +9,9 @@ use Rattle.source.specs.declared.ExportsKind.{ExportsKind}
 use Rattle.source.specs.declared.ExportsKind.TheVariants.{None as Unknown, Esm, CommonJs}
 use Rattle.source.specs.Meaning.{Meaning}
 use Rattle.marks.specs.declared.rows.MarkRow.{MarkRow}
-use Rattle.marks.specs.Marks.{read_row, marked_row, with_required}
+use Rattle.marks.specs.Rules.{read_row, marked_row, with_required, is_wrapped}
 use Rattle.marks.specs.Records.{NormalAt}
 use Rattle.marks.specs.Rows.{kind_in, wrapped_in}
-use Rattle.marks.specs.Rules.{is_wrapped}
 use Rattle.spread.specs.declared.yes_no.YesNo.{YesNo}
 use Rattle.ways.specs.Targets.{flag}
 

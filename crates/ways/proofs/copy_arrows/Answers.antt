@@ -37,7 +37,7 @@ one_more g c =
     let w = g.S.ModuleSource.meaning c.args.source.now in
     let h : c.loop-m.m < count_of w = omega (arith, c.module_count-m-end.ensures) in
     let i : c.loop-k.k < records_in w c.loop-m.m = omega (arith, c.record_count-k-end.ensures) in
-    room w c.loop-m.m c.loop-k.k c.loop-k.n (length c.loop-k.arrows) h i (omega (arith, c.requires.room, c.loop-k.auto.arrows, c.loop-m.auto.arrows)) c.loop-k.invariant.0
+    room w c.loop-m.m c.loop-k.k c.loop-k.n (length c.loop-k.arrows) h i (omega (arith, c.requires, c.loop-k.auto.arrows, c.loop-m.auto.arrows)) c.loop-k.invariant.0
 
 pub offset_bounds-arrows-n : goal.offset_bounds-arrows-n
 offset_bounds-arrows-n g c = let h = one_more g c in search rules
@@ -56,7 +56,7 @@ loop-k-preserved g c =
     let k = c.loop-k.k in
     let h : m < count_of w = omega (arith, c.module_count-m-end.ensures) in
     let i : k < records_in w m = omega (arith, c.record_count-k-end.ensures) in
-    let room-here = room w m k c.loop-k.n (length c.loop-k.arrows) h i (omega (arith, c.requires.room, c.loop-k.auto.arrows, c.loop-m.auto.arrows)) c.loop-k.invariant.0 in
+    let room-here = room w m k c.loop-k.n (length c.loop-k.arrows) h i (omega (arith, c.requires, c.loop-k.auto.arrows, c.loop-m.auto.arrows)) c.loop-k.invariant.0 in
     let x = c.look-kind.result in
     let looked = c.look-kind.ensures in
     let points = look_points w m k x looked c.in-Some.t (c.in-Normal.field-0, sym c.in-Normal.ensures) c.in-Some.is in
@@ -89,6 +89,6 @@ pub returns : goal.returns
 returns g c =
     let w = g.S.ModuleSource.meaning c.args.source.now in
     record {
-      fits = omega (arith, c.loop-m.invariant.0, sum_by-take-le long w.modules c.loop-m.m, c.requires.room, c.loop-m.auto.arrows);
+      fits = omega (arith, c.loop-m.invariant.0, sum_by-take-le long w.modules c.loop-m.m, c.requires, c.loop-m.auto.arrows);
       all = copied_all c.args.way w c.loop-m.m c.loop-m.arrows c.loop-m.n (omega (arith, c.module_count-m-end.ensures)) c.loop-m.invariant.1;
     }

@@ -11,6 +11,6 @@ returns g c =
     record {
       rows = take (n - 0) copied;
       spread = spread_accepted g.F.Fact.zero g.F.Fact.join (take (n - 0) copied) c.args.facts.now c.spread.new.facts c.spread.result c.spread.ensures.leaves
-          (all_inside c.args.way w copied n c.copy_arrows-n.ensures (n - 0) same (length c.args.facts.now) c.requires.facts c.requires.targets);
+          (all_inside c.args.way w copied n c.copy_arrows-n.ensures (n - 0) same (length c.args.facts.now) c.requires.facts (g.met.S.Linkable.targets c.args.source.now));
       leads = leads_just c.args.way w copied n c.copy_arrows-n.ensures (n - 0) same;
     }

@@ -1,6 +1,6 @@
 use Rattle.std.proofs.Common.{◌<◌, ◌&&◌, ◌||◌, length, ap, ◌∙◌, arith}
 use Rattle.marks.specs.declared.rows.MarkRow.{MarkRow}
-use Rattle.marks.specs.Marks.{with_dynamic}
+use Rattle.marks.specs.Rules.{with_dynamic}
 use Rattle.marks.specs.Rows.{row_at}
 use Rattle.marks.proofs.Writes.{written_more}
 use Rattle.ways.specs.Targets.{flag}

@@ -1,6 +1,6 @@
 use Rattle.std.proofs.Common.{ℕ, ◌<◌, ◌||◌, length, ap, ◌∙◌, subst, arith}
 use Rattle.marks.specs.declared.rows.MarkRow.{MarkRow}
-use Rattle.marks.specs.Marks.{with_awaiting}
+use Rattle.marks.specs.Rules.{with_awaiting}
 use Rattle.marks.specs.Rows.{row_at, Written}
 use Rattle.marks.proofs.Writes.{written_more}
 use Rattle.ways.specs.Targets.{flag}

@@ -1,9 +1,8 @@
 use Rattle.std.proofs.Common.{◌<◌, Bool, ◌&&◌, ◌||◌, length, ap, ◌∙◌, arith}
 use Rattle.source.specs.declared.ExportsKind.{ExportsKind}
 use Rattle.marks.specs.declared.rows.MarkRow.{MarkRow}
-use Rattle.marks.specs.Marks.{read_row, marked_row, with_required}
+use Rattle.marks.specs.Rules.{read_row, marked_row, with_required, is_wrapped}
 use Rattle.marks.specs.Rows.{row_at, wrapped_in}
-use Rattle.marks.specs.Rules.{is_wrapped}
 use Rattle.marks.proofs.Writes.{written_more}
 use Rattle.ways.specs.Targets.{flag}
 use Rattle.wrapping.specs.Wraps.{WrappedRow}
