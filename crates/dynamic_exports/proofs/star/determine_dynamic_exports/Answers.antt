@@ -6,4 +6,4 @@ pub returns : goal.returns
 returns g c =
     let w = g.S.ModuleSource.meaning c.args.source.now in
     star_did w c.args.rows.now c.write_dynamic.new.rows c.open_ends.new.facts c.spread_along.new.facts c.clear.new.flags c.point_at.new.flags c.args.starred.now
-    (omega (arith, c.requires.facts, c.open_ends.auto.facts)) c.requires.targets c.open_ends.ensures c.spread_along.ensures c.clear.ensures c.point_at.ensures c.write_dynamic.ensures
+    (omega (arith, c.requires.facts, c.open_ends.auto.facts)) (g.met.S.Linkable.targets c.args.source.now) c.open_ends.ensures c.spread_along.ensures c.clear.ensures c.point_at.ensures c.write_dynamic.ensures

@@ -15,7 +15,7 @@ loop-m-preserved g c =
     let m = c.loop-m.m in
     let h : m < count_of w = omega (arith, c.module_count-m-end.ensures) in
     let lt : m < length c.loop-m.facts = omega (arith, c.requires.facts, c.loop-m.auto.facts) in
-    let tested : c.is_entry.result ≡ is_entry (module_at w m) = c.is_entry.ensures ∙ ap is_entry c.module.ensures in
+    let tested : c.is_entry.result ≡ is_entry (module_at w m) = c.is_entry.ensures in
     elim c.if-is_entry.branch [
       | then-is_entry v ↦
           (let yes : is_entry (module_at w m) ≡ true = sym tested ∙ v.if-is_entry.true in
