@@ -1,12 +1,11 @@
 // Records settle the kinds of the modules that they are resolved to; what is required is wrapped, and CommonJS importers are.
 ghost use Rattle.std.specs.Prelude.{◌≡◌, ◌≤◌, length};
 ghost use Rattle.source.specs.Meaning.{count_of};
-ghost use Rattle.marks.specs.Records.{acts_as_require};
 ghost use Rattle.marks.specs.Kinds.{or_else, makes, importer_rule};
 ghost use Rattle.marks.specs.Passes.{KindsDid};
 ghost use Rattle.exports_kind.specs.Steps.{after_record, after_importer, ReadUpTo};
 
-use marks::{LinkOptions, Mark, MarkRow, OutputFormat};
+use marks::{LinkOptions, Mark, MarkRow, OutputFormat, write_front};
 use source::{ExportsKind, ImportKind, Module, ModuleSource, NormalModule};
 
 // The first kind that is known.
@@ -16,17 +15,6 @@ fn or_else(kind: ExportsKind, other: ExportsKind) -> ExportsKind
     match kind {
         ExportsKind::None => other,
         ExportsKind::Esm | ExportsKind::CommonJs => kind,
-    }
-}
-
-// `require('./bar.js')`, and `import('./bar.js')` where it pulls its target into the same file.
-fn acts_as_require(options: LinkOptions, kind: ImportKind) -> bool
-    ensures { result ≡ acts_as_require options kind }
-{
-    match kind {
-        ImportKind::Require => true,
-        ImportKind::DynamicImport => options.splitting_off,
-        _ => false,
     }
 }
 
@@ -47,10 +35,7 @@ fn mark_importee(options: LinkOptions, importee: NormalModule, kind: ImportKind,
     ensures { result ≡ after_record options importee kind mark }
 {
     let promoted = or_else(mark.kind(), promoted_kind(options, importee, kind));
-    mark.marked(
-        promoted,
-        acts_as_require(options, kind) || mark.is_wrapped(),
-    )
+    mark.marked(promoted, options.acts_as_require(kind) || mark.is_wrapped())
 }
 
 // Whether a CommonJS importer is wrapped. An entry is not where the bundle's own `module` and `exports` serve it, or it uses neither.
@@ -83,10 +68,7 @@ fn read_rows<S: ModuleSource>(source: &S, rows: &mut [MarkRow])
     requires { count_of (S.meaning source.now) ≤ length rows.old }
     ensures { ReadUpTo (count_of (S.meaning source.now)) rows.old rows.new }
 {
-    for m in 0..source.module_count() {
-        let mark = Mark::read(rows[m]);
-        rows[m] = mark.row();
-    }
+    write_front(rows, source.module_count(), |_, row| Mark::read(row).row());
 }
 
 /// The first counting record in scan order settles the kind of a module of no kind; later ones leave it.

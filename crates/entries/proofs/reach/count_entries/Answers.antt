@@ -1,4 +1,4 @@
-use Rattle.std.proofs.Common.{◌≡◌, ◌<◌, sym, ap, ◌∙◌, arith}
+use Rattle.std.proofs.Common.{◌≡◌, ◌<◌, sym, ◌∙◌, arith}
 use Rattle.source.specs.Meaning.{count_of, module_at}
 use Rattle.marks.specs.Passes.{is_entry}
 use Rattle.entries.proofs.Ranks.{rank_yes, rank_no}
