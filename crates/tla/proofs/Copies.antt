@@ -1,15 +1,14 @@
 -- The imports that are copied as arrows, record by record in scan order. Assumes nothing.
-use Rattle.std.proofs.Common.{◌≡◌, ℕ, ◌+◌, ◌<◌, ◌≤◌, Bool, true, false, List, [], ◌∷◌, ◌++◌, map, length, get_or, take, drop, set, Some, None, sum_by, Option, sym, refl, ap, ◌∙◌, subst, inl, inr, append-nil, arith}
-use Rattle.std.proofs.lemmas.List.{take_more, take_all, take-append-drop, take_more_set, length-append, length_push, length-set, map_push, get_or-set_same, get_or-set_other, flat_map_more}
+use Rattle.std.proofs.Common.{◌≡◌, ℕ, ◌+◌, ◌<◌, ◌≤◌, Bool, true, false, List, [], ◌∷◌, ◌++◌, map, length, take, drop, set, Some, None, sum_by, Option, sym, refl, ap, ◌∙◌, subst, append-nil, arith}
+use Rattle.std.proofs.lemmas.List.{take_more, take_all, take-append-drop, take_more_set, length-append, length_push, map_push, flat_map_more}
 use Rattle.std.proofs.lemmas.List.Sums.{sum_by-cons}
-use Rattle.std.proofs.lemmas.Bool.{cases_eq}
 use Rattle.std.specs.List.{flat_map}
 use Rattle.source.specs.declared.ImportRecord.{ImportRecord}
 use Rattle.source.specs.Meaning.{Meaning, Scanned, count_of, records_of, records_in, record_at, past_records, record_total}
 use Rattle.marks.proofs.Records.{none_some}
 use Rattle.spread.specs.declared.arrow.Arrow.{Arrow}
 use Rattle.ways.specs.Ways.{is_import}
-use Rattle.tla.specs.Search.{led_to, imports_in, imports_of, imports_before, Laid}
+use Rattle.tla.specs.Search.{led_to, imports_in, imports_of, imports_before}
 use Rattle.tla.proofs.Segments.{scanned_imports, joined_append, before_more, before_fits}
 
 -- the first n arrows go to these targets
@@ -92,28 +91,3 @@ module _ (w : Meaning) (m : ℕ) where
       pub copied_push : (a : Arrow) → a.to ≡ t → n < length arrows → Copied (so_far (k + 1)) (set arrows n a) (n + 1)
       copied_push a to lt =
           subst (λ (ts : List ℕ). Copied ts (set arrows n a) (n + 1)) (sym (more ∙ ap (λ (y : ℕ). so_far k ++ y ∷ []) (sym to))) (copied_more (so_far k) arrows n a lt c)
-
--- where each module's arrows begin
-abbrev pub Begun : Meaning → List ℕ → ℕ → Type 0
-Begun w first m = (j : ℕ) → j < m → get_or first j 0 ≡ length (imports_before w j)
-
-pub begun_more : (w : Meaning) (first : List ℕ) (m n : ℕ) → m < length first → n ≡ length (imports_before w m) → Begun w first m → Begun w (set first m n) (m + 1)
-begun_more w first m n h is b j lt = elim (cases_eq j m) [
-  | inl e ↦ ap (λ (k : ℕ). get_or (set first m n) k 0) e ∙ get_or-set_same first m n 0 h ∙ is ∙ ap (λ (k : ℕ). length (imports_before w k)) (sym e)
-  | inr ne ↦ get_or-set_other first m j n 0 ne ∙ b j (omega arith)
-]
-
-module _ (w : Meaning) (first : List ℕ) (arrows : List Arrow) (m at n : ℕ) (m-is : m ≡ count_of w) (at-is : at ≡ count_of w) (room : count_of w < length first) where
-  pub laid_all : record_total w ≤ length arrows → Begun w first m → Copied (imports_before w m) arrows n → Laid w (set first at n) arrows
-  laid_all fits begun some = record {
-    long = omega (arith, length-set first at n);
-    fits = omega (arith, imports_total w);
-    starts = λ j le. starts j (omega arith);
-    targets = ap (λ (k : ℕ). map (λ (a : Arrow). a.to) (take k arrows)) (sym all.count) ∙ all.targets;
-  }
-    where
-      all : Copied (imports_before w (count_of w)) arrows n
-      all = subst (λ (k : ℕ). Copied (imports_before w k) arrows n) m-is some
-
-      starts : Begun w (set first at n) (count_of w + 1)
-      starts = subst (λ (k : ℕ). Begun w (set first k n) (count_of w + 1)) (sym at-is) (begun_more w first (count_of w) n room all.count (subst (Begun w first) m-is begun))

@@ -4,8 +4,7 @@ use Rattle.std.proofs.lemmas.List.{get_or-set_same, get_or-set_other}
 use Rattle.std.proofs.lemmas.Bool.{cases_eq}
 use Rattle.source.specs.Meaning.{Meaning, count_of, record_total}
 use Rattle.spread.specs.declared.arrow.Arrow.{Arrow}
-use Rattle.tla.specs.Search.{imports_before}
-use Rattle.tla.specs.Once.{LaidByEnds}
+use Rattle.tla.specs.Search.{imports_before, LaidByEnds}
 use Rattle.tla.proofs.Copies.{Copied, imports_total}
 
 -- where each module's arrows end

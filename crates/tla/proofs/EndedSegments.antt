@@ -1,14 +1,10 @@
 -- Where the imports of a module stand among the arrows of all modules, by where each module's end. Assumes nothing.
-use Rattle.std.proofs.Common.{◌≡◌, ℕ, zero, suc, ◌+◌, ◌-◌, ◌<◌, ◌≤◌, List, ◌∷◌, ◌++◌, length, get_or, take, drop, sym, refl, ap, ◌∙◌, subst, add-one, arith}
-use Rattle.std.proofs.ByRecursion.{All-get_or}
-use Rattle.std.proofs.lemmas.List.{drop_more, length-append, length-take-le, get_or_append_left, get_or-append-add, get_or-take, get_or-map}
-use Rattle.source.specs.Meaning.{Meaning, Proper, count_of}
+use Rattle.std.proofs.Common.{◌≡◌, ℕ, zero, suc, ◌+◌, ◌-◌, ◌<◌, ◌≤◌, List, ◌++◌, map, length, get_or, take, drop, sym, refl, ap, ◌∙◌, add-one, arith}
+use Rattle.std.proofs.lemmas.List.{ext_get_or, length-append, length-drop, length-map, length-take-le, get_or_append_left, get_or-append-add, get_or-take, get_or-drop, get_or-map}
+use Rattle.source.specs.Meaning.{Meaning, count_of}
 use Rattle.spread.specs.declared.arrow.Arrow.{Arrow}
 use Rattle.spread.specs.Leads.{no_arrow}
-use Rattle.ways.specs.Ways.{Targets}
-use Rattle.tla.proofs.Targets.{imports_inside}
-use Rattle.tla.specs.Search.{imports_of, imports_before}
-use Rattle.tla.specs.Once.{start_of, LaidByEnds}
+use Rattle.tla.specs.Search.{imports_of, imports_before, start_of, LaidByEnds}
 use Rattle.tla.proofs.Segments.{before_all, after, before_more, before_fits}
 
 pub start_first : (ends : List ℕ) (m : ℕ) → m ≡ 0 → 0 ≡ start_of ends m
@@ -59,13 +55,24 @@ module _ (w : Meaning) (ends : List ℕ) (arrows : List Arrow) (laid : LaidByEnd
         ∙ ap (λ (ts : List ℕ). get_or ts i 0) laid.targets
         ∙ among_all
 
-    pub imports_left : drop (i - first) (imports_of w m) ≡ (get_or arrows i no_arrow).to ∷ drop (i + 1 - first) (imports_of w m)
-    imports_left =
-        let j = i - first in
-        let next : j + 1 ≡ i + 1 - first = omega arith in
-        drop_more (imports_of w m) j 0 place
-        ∙ ap (λ (t : ℕ). t ∷ drop (j + 1) (imports_of w m)) (sym arrow_is)
-        ∙ ap (λ (k : ℕ). (get_or arrows i no_arrow).to ∷ drop k (imports_of w m)) next
+  -- so its arrows, taken out, go to its imports
+  pub imports_are : map (λ (a : Arrow). a.to) (take (get_or ends m 0 - first) (drop first arrows)) ≡ imports_of w m
+  imports_are =
+      let e = get_or ends m 0 in
+      let xs = take (e - first) (drop first arrows) in
+      let fits : e ≤ length arrows = omega (arith, laid.stops m h, before_fits w (m + 1), laid.fits) in
+      let long : length xs ≡ e - first = length-take-le (e - first) (drop first arrows) (omega (arith, length-drop first arrows, fits)) in
+      ext_get_or 0 (map (λ (a : Arrow). a.to) xs) (imports_of w m) (length-map xs (λ (a : Arrow). a.to) ∙ long ∙ omega (arith, last_import)) (λ j lt.
+      let j_in : j < length xs = omega (arith, lt, length-map xs (λ (a : Arrow). a.to)) in
+      let near : j < e - first = omega (arith, j_in, long) in
+      let at : first + j - first ≡ j = omega arith in
+      get_or-map (λ (a : Arrow). a.to) xs j no_arrow 0 j_in
+      ∙ ap (λ (a : Arrow). a.to) (get_or-take (e - first) (drop first arrows) j no_arrow near ∙ get_or-drop first arrows j no_arrow)
+      ∙ arrow_is (first + j) (omega arith) (omega (arith, near))
+      ∙ ap (λ (k : ℕ). get_or (imports_of w m) k 0) at)
 
-    pub arrow_inside : Proper w → Targets w → (get_or arrows i no_arrow).to < count_of w
-    arrow_inside proper targets = subst (λ (t : ℕ). t < count_of w) (sym arrow_is) (All-get_or (λ t. t < count_of w) (imports_of w m) (i - first) 0 place (imports_inside w proper targets m))
+  pub first_below : first ≤ get_or ends m 0
+  first_below = omega (arith, last_import)
+
+  pub last_below : get_or ends m 0 ≤ length arrows
+  last_below = omega (arith, laid.stops m h, before_fits w (m + 1), laid.fits)

@@ -1,9 +1,13 @@
 -- Each row is that of some record. Assumes nothing.
-use Rattle.std.proofs.Common.{◌≡◌, ℕ, zero, suc, ◌<◌, ◌≤◌, Bool, true, Some, None, Option, refl, ap, subst, inl, inr, add-one, arith}
+use Rattle.std.proofs.Common.{◌≡◌, ℕ, zero, suc, ◌<◌, ◌≤◌, Bool, true, List, length, Some, None, Option, refl, ap, ◌∙◌, subst, inl, inr, add-one, arith}
 use Rattle.std.proofs.lemmas.Bool.{and_parts, cases_Bool, cases_lt, false≢true}
+use Rattle.source.specs.declared.ImportKind.TheVariants.{Require}
+use Rattle.marks.specs.declared.rows.AwaitRow.{AwaitRow}
+use Rattle.marks.proofs.Records.{normal_below}
+use Rattle.ways.specs.Ways.{Targets}
 use Rattle.source.specs.Meaning.{Meaning, Proper, count_of, records_in, record_at}
 use Rattle.ways.specs.Targets.{is_require}
-use Rattle.tla.specs.Rows.{target_waits, gives_row, rows_before, row_place, row_total, RowAt}
+use Rattle.tla.specs.Rows.{target_waits, gives_row, rows_before, row_place, row_total, Waiting, RowAt, RowsWritten, AwaitRows}
 use Rattle.tla.proofs.Looked.{require_is}
 use Rattle.tla.proofs.Places.{before_all, place_none, place_all, place_yes, place_no}
 use Rattle.tla.proofs.Targets.{has_records}
@@ -56,3 +60,15 @@ module _ (w : Meaning) (waits : ℕ → Bool) (proper : Proper w) where
 
   pub row_at_place : (i : ℕ) → i < row_total w waits → RowAt w waits i
   row_at_place i h = below (count_of w) i (omega arith) (omega (arith, before_all w waits (count_of w) refl))
+
+-- the rows of all modules, written in their places, are all rows
+pub all_rows : (w : Meaning) (waits : ℕ → Bool) (old new : List AwaitRow) (n : ℕ) → Proper w → Targets w → Waiting w waits → length new ≡ length old → RowsWritten w waits (count_of w) old new n → AwaitRows w old new n
+all_rows w waits old new n proper targets when long written = record {
+  waits = waits;
+  when = when;
+  count = written.count ∙ before_all w waits (count_of w) refl;
+  all = λ i lt. row_at_place w waits proper i (omega (arith, written.count, before_all w waits (count_of w) refl));
+  long = long;
+  each = λ m k t p a. written.each m k t (normal_below w m p.importer) p ((when t (targets m t (k, Require, p))).1 a);
+  rest = written.rest;
+}

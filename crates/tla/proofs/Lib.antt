@@ -13,3 +13,4 @@ pub mod Knowns
 pub mod Alike
 pub mod Ended
 pub mod EndedSegments
+pub mod Followed

@@ -7,8 +7,9 @@
 --   Searches             a search of modules in turn, what it answers, and which modules are entered then
 --   SourceOf             what a search answers that begins at a module with none entered
 --   Told                 what the answer says of the module it began at; Only: that there is no other answer
---   Laid                 the imports of all modules as arrows, and where those of each module begin
-use Rattle.std.specs.Prelude.{◌≡◌, ℕ, ◌<◌, ◌≤◌, Bool, true, false, List, [], ◌∷◌, map, length, take, Some, None, Option, slice_index, slice_set}
+--   start_of             where a module's imports begin: where those of the module before end
+--   LaidByEnds           the imports of all modules as arrows, and where those of each module end
+use Rattle.std.specs.Prelude.{◌≡◌, ℕ, zero, suc, ◌+◌, ◌<◌, ◌≤◌, Bool, true, false, List, [], ◌∷◌, map, length, take, Some, None, Option, slice_index, slice_set}
 use Rattle.std.specs.List.{flat_map}
 use Rattle.source.specs.declared.ImportRecord.{ImportRecord}
 use Rattle.source.specs.Meaning.{Meaning, count_of, records_of, module_at}
@@ -61,8 +62,12 @@ Told w m (Some s) = AwaitAt w s × Leads (Imports w) m s
 abbrev pub Only : Meaning → ℕ → Option ℕ → Type 0
 Only w m answer = (other : Option ℕ) → SourceOf w m other → other ≡ answer
 
-pub record Laid (w : Meaning) (first : List ℕ) (arrows : List Arrow) : Type 0 where
-  pub long : count_of w < length first
+abbrev pub start_of : List ℕ → ℕ → ℕ
+start_of at zero = 0
+start_of at (suc m) = slice_index at m
+
+pub record LaidByEnds (w : Meaning) (ends : List ℕ) (arrows : List Arrow) : Type 0 where
+  pub long : count_of w ≤ length ends
   pub fits : length (imports_before w (count_of w)) ≤ length arrows
-  pub starts : (m : ℕ) → m ≤ count_of w → slice_index first m ≡ length (imports_before w m)
+  pub stops : (m : ℕ) → m < count_of w → slice_index ends m ≡ length (imports_before w (m + 1))
   pub targets : map (λ (a : Arrow). a.to) (take (length (imports_before w (count_of w))) arrows) ≡ imports_before w (count_of w)

@@ -4,33 +4,26 @@ ghost use Rattle.std.specs.Prelude.{◌≡◌, ℕ, ◌<◌, ◌≤◌, ◌&&◌
 ghost use Rattle.source.specs.Meaning.{count_of, record_total};
 ghost use Rattle.marks.specs.Passes.{Awaits};
 ghost use Rattle.ways.specs.Targets.{flag, Filled, is_require};
-ghost use Rattle.ways.specs.Ways.{Targets};
 ghost use Rattle.tla.specs.Rows.{await_span, row_total, RowOf, RowsWritten, RowCount, AwaitRows};
-ghost use Rattle.tla.specs.Search.{Laid};
+ghost use Rattle.tla.specs.Once.{Known, WaitsFor};
 
-use crate::search::{copy_imports, tla_source};
+use crate::imports::{Imports, copy_imports};
+use crate::memory::{Forgetful, Memory, Remembered};
+use crate::search::tla_source;
 use marks::AwaitRow;
 use source::{ImportKind, Module, ModuleSource, Span};
 use spread::{Arrow, YesNo};
-
-fn is_require(kind: ImportKind) -> bool
-    ensures { result ≡ is_require kind }
-{
-    match kind {
-        ImportKind::Require => true,
-        _ => false,
-    }
-}
+use ways::Linkable;
 
 // A record of this kind to module t is a `require` of a module that waits.
-pub fn gives_row(facts: &[YesNo], kind: ImportKind, t: usize) -> bool
+fn gives_row(facts: &[YesNo], kind: ImportKind, t: usize) -> bool
     requires { t < length facts.now }
     ensures { result ≡ (is_require kind && flag facts.now t) }
 {
-    is_require(kind) & facts[t].0
+    (kind == ImportKind::Require) & facts[t].0
 }
 
-pub fn await_span(module: Module) -> Span
+fn await_span(module: Module) -> Span
     ensures { result ≡ await_span «module» }
 {
     match module {
@@ -41,11 +34,10 @@ pub fn await_span(module: Module) -> Span
 
 /// How many rows there are, where the facts say which modules wait. An external module has no records, so every module
 /// is looked at.
-pub fn count_await_rows<S: ModuleSource>(source: &S, facts: &[YesNo]) -> usize
+pub fn count_await_rows<S: Linkable>(source: &S, facts: &[YesNo]) -> usize
     requires records { record_total (S.meaning source.now) ≤ 32768 }
     requires facts { count_of (S.meaning source.now) ≤ length facts.now }
     requires waits { Filled (count_of (S.meaning source.now)) (Awaits (S.meaning source.now)) facts.now }
-    requires targets { Targets (S.meaning source.now) }
     ensures count { result ≡ row_total (S.meaning source.now) (flag facts.now) }
     ensures only { (other : ℕ) → RowCount (S.meaning source.now) other → other ≡ result }
 {
@@ -64,55 +56,73 @@ pub fn count_await_rows<S: ModuleSource>(source: &S, facts: &[YesNo]) -> usize
     n
 }
 
-// The row of record k of module m, a `require` of module t that waits.
-fn await_row<S: ModuleSource>(
-    source: &S,
-    first: &[usize],
-    arrows: &[Arrow],
+// The module whose `await` module t waits for: the one that is remembered, or else the one that a search finds.
+fn known_source<S: Linkable, M: Memory>(
+    imports: &Imports<'_, S>,
     entered: &mut [YesNo],
+    memory: &mut M,
+    t: usize,
+) -> usize
+    requires entered { count_of (S.meaning imports.now.source.now) ≤ length entered.old }
+    requires known { Known (S.meaning imports.now.source.now) (M.known memory.old) }
+    requires target { t < count_of (S.meaning imports.now.source.now) }
+    requires waits { Awaits (S.meaning imports.now.source.now) t }
+    ensures source { WaitsFor (S.meaning imports.now.source.now) t result }
+    ensures known { Known (S.meaning imports.now.source.now) (M.known memory.new) }
+{
+    if let Some(s) = memory.recall(t) {
+        return s;
+    }
+    let s = tla_source(imports, entered, t).unwrap();
+    memory.keep(t, s);
+    s
+}
+
+// The row of record k of module m, a `require` of module t that waits.
+fn await_row<S: Linkable, M: Memory>(
+    imports: &Imports<'_, S>,
+    entered: &mut [YesNo],
+    memory: &mut M,
     m: usize,
     k: usize,
     t: usize,
 ) -> AwaitRow
-    requires small { count_of (S.meaning source.now) ≤ 4096 }
-    requires laid { Laid (S.meaning source.now) first.now arrows.now }
-    requires entered { count_of (S.meaning source.now) ≤ length entered.old }
-    requires targets { Targets (S.meaning source.now) }
+    requires entered { count_of (S.meaning imports.now.source.now) ≤ length entered.old }
+    requires known { Known (S.meaning imports.now.source.now) (M.known memory.old) }
     requires importer { m < 4096 }
     requires place { k < 32768 }
-    requires target { t < count_of (S.meaning source.now) }
-    requires waits { Awaits (S.meaning source.now) t }
-    ensures { RowOf (S.meaning source.now) m k t result }
+    requires target { t < count_of (S.meaning imports.now.source.now) }
+    requires waits { Awaits (S.meaning imports.now.source.now) t }
+    ensures row { RowOf (S.meaning imports.now.source.now) m k t result }
+    ensures known { Known (S.meaning imports.now.source.now) (M.known memory.new) }
 {
-    let found = tla_source(source, first, arrows, entered, t).unwrap();
+    let found = known_source(imports, entered, memory, t);
     AwaitRow {
         importer: m as u32,
         record: k as u32,
         source: found as u32,
-        span: source.record(m, k).span,
-        await_span: await_span(source.module(found)),
+        span: imports.source.record(m, k).span,
+        await_span: await_span(imports.source.module(found)),
     }
 }
 
 // Writes the rows in scan order, and says how many there are.
-fn write_rows<S: ModuleSource>(
-    source: &S,
+fn write_rows<S: Linkable, M: Memory>(
+    imports: &Imports<'_, S>,
     facts: &[YesNo],
-    first: &[usize],
-    arrows: &[Arrow],
     entered: &mut [YesNo],
+    memory: &mut M,
     list: &mut [AwaitRow],
 ) -> usize
-    requires small { count_of (S.meaning source.now) ≤ 4096 }
-    requires records { record_total (S.meaning source.now) ≤ 32768 }
-    requires facts { count_of (S.meaning source.now) ≤ length facts.now }
-    requires waits { Filled (count_of (S.meaning source.now)) (Awaits (S.meaning source.now)) facts.now }
-    requires laid { Laid (S.meaning source.now) first.now arrows.now }
-    requires entered { count_of (S.meaning source.now) ≤ length entered.old }
-    requires targets { Targets (S.meaning source.now) }
-    requires room { row_total (S.meaning source.now) (flag facts.now) ≤ length list.old }
-    ensures { RowsWritten (S.meaning source.now) (flag facts.now) (count_of (S.meaning source.now)) list.old list.new result }
+    requires records { record_total (S.meaning imports.now.source.now) ≤ 32768 }
+    requires facts { count_of (S.meaning imports.now.source.now) ≤ length facts.now }
+    requires waits { Filled (count_of (S.meaning imports.now.source.now)) (Awaits (S.meaning imports.now.source.now)) facts.now }
+    requires entered { count_of (S.meaning imports.now.source.now) ≤ length entered.old }
+    requires known { Known (S.meaning imports.now.source.now) (M.known memory.old) }
+    requires room { row_total (S.meaning imports.now.source.now) (flag facts.now) ≤ length list.old }
+    ensures { RowsWritten (S.meaning imports.now.source.now) (flag facts.now) (count_of (S.meaning imports.now.source.now)) list.old list.new result }
 {
+    let source = imports.source;
     let mut n: usize = 0;
     for m in 0..source.module_count() {
         for k in 0..source.record_count(m) {
@@ -122,7 +132,8 @@ fn write_rows<S: ModuleSource>(
             };
             let t = t as usize;
             if gives_row(facts, kind, t) {
-                let row = await_row(source, first, arrows, entered, m, k, t);
+                // The rows are lent memory, so that their count stands beside them.
+                let row = await_row(imports, entered, memory, m, k, t);
                 list[n] = row;
                 n += 1;
             }
@@ -132,26 +143,51 @@ fn write_rows<S: ModuleSource>(
 }
 
 /// Writes one row for each `require` of a module that waits, in scan order, and says how many there are. The facts say
-/// which modules wait; rows past the last one stay.
-pub fn write_await_rows<S: ModuleSource>(
+/// which modules wait; rows past the last one stay. Each `require` has a search of its own.
+pub fn write_await_rows<S: Linkable>(
     source: &S,
     facts: &[YesNo],
-    first: &mut [usize],
+    ends: &mut [usize],
     arrows: &mut [Arrow],
     entered: &mut [YesNo],
     list: &mut [AwaitRow],
 ) -> usize
-    requires small { count_of (S.meaning source.now) ≤ 4096 }
     requires records { record_total (S.meaning source.now) ≤ 32768 }
     requires facts { count_of (S.meaning source.now) ≤ length facts.now }
     requires waits { Filled (count_of (S.meaning source.now)) (Awaits (S.meaning source.now)) facts.now }
-    requires first { count_of (S.meaning source.now) < length first.old }
+    requires ends { count_of (S.meaning source.now) ≤ length ends.old }
     requires arrows { record_total (S.meaning source.now) ≤ length arrows.old }
     requires entered { count_of (S.meaning source.now) ≤ length entered.old }
-    requires targets { Targets (S.meaning source.now) }
     requires room { row_total (S.meaning source.now) (flag facts.now) ≤ length list.old }
     ensures { AwaitRows (S.meaning source.now) list.old list.new result }
 {
-    copy_imports(source, first, arrows);
-    write_rows(source, facts, first, arrows, entered, list)
+    copy_imports(source, ends, arrows);
+    let imports = Imports::new(source, ends, arrows);
+    write_rows(&imports, facts, entered, &mut Forgetful, list)
+}
+
+/// The same with one search for each module that is asked for: what a search found is known from then on.
+pub fn write_await_rows_once<S: Linkable>(
+    source: &S,
+    facts: &[YesNo],
+    ends: &mut [usize],
+    arrows: &mut [Arrow],
+    entered: &mut [YesNo],
+    found: &mut [Option<usize>],
+    list: &mut [AwaitRow],
+) -> usize
+    requires records { record_total (S.meaning source.now) ≤ 32768 }
+    requires facts { count_of (S.meaning source.now) ≤ length facts.now }
+    requires waits { Filled (count_of (S.meaning source.now)) (Awaits (S.meaning source.now)) facts.now }
+    requires ends { count_of (S.meaning source.now) ≤ length ends.old }
+    requires arrows { record_total (S.meaning source.now) ≤ length arrows.old }
+    requires entered { count_of (S.meaning source.now) ≤ length entered.old }
+    requires found { count_of (S.meaning source.now) ≤ length found.old }
+    requires room { row_total (S.meaning source.now) (flag facts.now) ≤ length list.old }
+    ensures { AwaitRows (S.meaning source.now) list.old list.new result }
+{
+    copy_imports(source, ends, arrows);
+    let imports = Imports::new(source, ends, arrows);
+    let mut memory = Remembered::new(&mut found[..source.module_count()]);
+    write_rows(&imports, facts, entered, &mut memory, list)
 }

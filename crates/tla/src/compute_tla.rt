@@ -4,21 +4,17 @@ ghost use Rattle.source.specs.Meaning.{count_of, record_total};
 ghost use Rattle.marks.specs.declared.options.LinkOptions.{LinkOptions};
 ghost use Rattle.marks.specs.Passes.{Awaits, AwaitDid};
 ghost use Rattle.ways.specs.Targets.{Filled};
-ghost use Rattle.ways.specs.Ways.{Targets};
 ghost use Rattle.tla.specs.Awaiting.{has_await, AwaitAt};
 
-use marks::{Mark, MarkRow};
+use marks::{Mark, MarkRow, write_front};
 use source::{Module, ModuleSource};
 use spread::{Arrow, YesNo};
-use ways::{Way, spread_along};
+use ways::{Linkable, Way, spread_along};
 
 pub fn has_await(module: Module) -> bool
     ensures { result ≡ has_await «module» }
 {
-    match module {
-        Module::External => false,
-        Module::Normal(normal) => normal.top_level_await,
-    }
+    matches!(module, Module::Normal(normal) if normal.top_level_await)
 }
 
 // Yes at each module that has an `await` of its own.
@@ -26,18 +22,18 @@ fn own_awaits<S: ModuleSource>(source: &S, facts: &mut [YesNo])
     requires { count_of (S.meaning source.now) ≤ length facts.old }
     ensures { Filled (count_of (S.meaning source.now)) (AwaitAt (S.meaning source.now)) facts.new }
 {
-    for m in 0..source.module_count() {
-        facts[m] = YesNo(has_await(source.module(m)));
-    }
+    write_front(
+        facts,
+        source.module_count(),
+        |m, _| YesNo(has_await(source.module(m))),
+    );
 }
 
 /// The facts become yes exactly at the normal modules from which imports lead to one with a top-level await, itself
 /// included. Circles count.
-pub fn find_awaiting<S: ModuleSource>(source: &S, facts: &mut [YesNo], arrows: &mut [Arrow])
-    requires small { count_of (S.meaning source.now) ≤ 4096 }
+pub fn find_awaiting<S: Linkable>(source: &S, facts: &mut [YesNo], arrows: &mut [Arrow])
     requires facts { count_of (S.meaning source.now) ≤ length facts.old }
     requires room { record_total (S.meaning source.now) ≤ length arrows.old }
-    requires targets { Targets (S.meaning source.now) }
     ensures { Filled (count_of (S.meaning source.now)) (Awaits (S.meaning source.now)) facts.new }
 {
     own_awaits(source, facts);
@@ -51,26 +47,23 @@ pub fn mark_awaiting<S: ModuleSource>(source: &S, rows: &mut [MarkRow], facts: &
     requires waits { Filled (count_of (S.meaning source.now)) (Awaits (S.meaning source.now)) facts.now }
     ensures { (o : LinkOptions) → AwaitDid (S.meaning source.now) o rows.old rows.new }
 {
-    for m in 0..source.module_count() {
-        let row = rows[m];
-        rows[m] = Mark::read(row)
+    write_front(rows, source.module_count(), |m, row| {
+        Mark::read(row)
             .with_awaiting(row.awaiting | facts[m].0)
-            .row();
-    }
+            .row()
+    });
 }
 
 /// Awaiting becomes yes for the modules that wait, and the facts say which they are.
-pub fn determine_awaiting<S: ModuleSource>(
+pub fn determine_awaiting<S: Linkable>(
     source: &S,
     rows: &mut [MarkRow],
     facts: &mut [YesNo],
     arrows: &mut [Arrow],
 )
-    requires small { count_of (S.meaning source.now) ≤ 4096 }
     requires rows { count_of (S.meaning source.now) ≤ length rows.old }
     requires facts { count_of (S.meaning source.now) ≤ length facts.old }
     requires room { record_total (S.meaning source.now) ≤ length arrows.old }
-    requires targets { Targets (S.meaning source.now) }
     ensures marks { (o : LinkOptions) → AwaitDid (S.meaning source.now) o rows.old rows.new }
     ensures facts { Filled (count_of (S.meaning source.now)) (Awaits (S.meaning source.now)) facts.new }
 {

@@ -3,10 +3,9 @@
 
 mod await_rows;
 mod compute_tla;
-mod ends;
-mod once;
+mod imports;
+mod memory;
 mod search;
 
-pub use await_rows::{count_await_rows, write_await_rows};
+pub use await_rows::{count_await_rows, write_await_rows, write_await_rows_once};
 pub use compute_tla::{determine_awaiting, find_awaiting, mark_awaiting};
-pub use once::write_await_rows_once;

@@ -1,4 +1,4 @@
-use Rattle.std.proofs.Common.{ℕ, ◌-◌, ◌≤◌, List, get_or, drop, Option}
+use Rattle.std.proofs.Common.{ℕ, ◌≤◌, List, drop, Option}
 use Rattle.spread.specs.declared.yes_no.YesNo.{YesNo}
 use Rattle.tla.specs.Search.{imports_of, Searches}
 use Rattle.tla.proofs.Searched.{fresh}
@@ -8,7 +8,7 @@ abbrev pub decreases-find_tla_source : goal.decreases-find_tla_source
 decreases-find_tla_source g l = fresh l.entered.now
 
 -- whatever a search of the imports that are left comes to, a search of all of them does
-abbrev pub invariant-loop-i : goal.invariant-loop-i
-invariant-loop-i g l =
-    let w = g.S.ModuleSource.meaning l.source in
-    (fresh l.entered ≤ fresh l.initial.entered) × ((r : Option ℕ) (last : List YesNo) → Searches w l.entered (drop (l.i - get_or l.first l.m 0) (imports_of w l.m)) r last → Searches w l.initial.entered (imports_of w l.m) r last)
+abbrev pub invariant-loop-arrow : goal.invariant-loop-arrow
+invariant-loop-arrow g l =
+    let w = g.S.ModuleSource.meaning l.imports.source.now in
+    (fresh l.entered ≤ fresh l.initial.entered) × ((r : Option ℕ) (last : List YesNo) → Searches w l.entered (drop l.arrow-index (imports_of w l.m)) r last → Searches w l.initial.entered (imports_of w l.m) r last)

@@ -1,7 +1,7 @@
 use Rattle.tla.specs.Search.{imports_before}
 use Rattle.tla.proofs.Copies.{Copied, so_far}
 use Rattle.tla.proofs.Ended.{Ended}
-use Rattle.tla.proofs.ends.copy_imports.Given as goal
+use Rattle.tla.proofs.imports.copy_imports.Given as goal
 
 abbrev pub invariant-loop-m : goal.invariant-loop-m
 invariant-loop-m g l =
