@@ -2,8 +2,8 @@
 ghost use Rattle.std.specs.Prelude.{◌≡◌};
 ghost use Rattle.lawful.specs.Lawful.{is_esm, work_short, source_verdict};
 
-use crate::records::{check_all_records, link_fault};
-use faults::{Fault, Refusal};
+use crate::records::check_all_records;
+use faults::{Fault, Layer, Refusal};
 use marks::LinkOptions;
 use source::{ExportsKind, MODULE_LIMIT, Module, ModuleSource, count_records};
 
@@ -17,23 +17,14 @@ pub struct Lent {
 fn is_esm(module: Module) -> bool
     ensures { result ≡ is_esm «module» }
 {
-    match module {
-        Module::External => false,
-        Module::Normal(normal) => match normal.scanned {
-            ExportsKind::Esm => true,
-            ExportsKind::None | ExportsKind::CommonJs => false,
-        },
-    }
+    matches!(module, Module::Normal(normal) if normal.scanned == ExportsKind::Esm)
 }
 
 // Fewer arrows than records, or another work slice shorter than the modules.
 fn is_work_short(work: Option<(usize, usize)>, modules: usize, records: usize) -> bool
     ensures { result ≡ work_short work modules records }
 {
-    match work {
-        Some((arrows, other)) => (arrows < records) | (other < modules),
-        None => false,
-    }
+    work.is_some_and(|(arrows, other)| (arrows < records) | (other < modules))
 }
 
 /// The first fault of the source under these options and of the slices that are lent, if there is one.
@@ -46,19 +37,19 @@ pub fn check_source<S: ModuleSource>(
 {
     let modules = source.module_count();
     if modules > MODULE_LIMIT {
-        return Err(link_fault(Refusal::TooManyModules, 0, 0));
+        return Err(Refusal::TooManyModules.found_by(Layer::Link, 0, 0));
     }
     let Some(records) = count_records(source) else {
-        return Err(link_fault(Refusal::TooManyRecords, 0, 0));
+        return Err(Refusal::TooManyRecords.found_by(Layer::Link, 0, 0));
     };
     if lent.marks < modules {
-        return Err(link_fault(Refusal::MarksTooShort, 0, 0));
+        return Err(Refusal::MarksTooShort.found_by(Layer::Link, 0, 0));
     }
     if is_work_short(lent.work, modules, records) {
-        return Err(link_fault(Refusal::WorkTooShort, 0, 0));
+        return Err(Refusal::WorkTooShort.found_by(Layer::Link, 0, 0));
     }
     if !is_esm(source.module(source.runtime() as usize)) {
-        return Err(link_fault(Refusal::RuntimeNotEsm, 0, 0));
+        return Err(Refusal::RuntimeNotEsm.found_by(Layer::Link, 0, 0));
     }
     check_all_records(source, options)
 }

@@ -1,40 +1,23 @@
 // The checks of records, in scan order: normal modules by number, each one's records by place, unresolved ones too.
 ghost use Rattle.std.specs.Prelude.{◌≡◌};
 ghost use Rattle.source.specs.Meaning.{count_of, module_at, records_of};
-ghost use Rattle.marks.specs.Records.{acts_as_require};
 ghost use Rattle.faults.specs.Faults.{each};
-ghost use Rattle.lawful.specs.Lawful.{link_fault, is_style, past_end, style_of_normal, star_misplaced, runtime_required, record_verdict, records_verdict};
+ghost use Rattle.lawful.specs.Lawful.{is_style, past_end, style_of_normal, star_misplaced, runtime_required, record_verdict, records_verdict};
 
-use faults::{Fault, Layer, Place, Refusal};
+use faults::{Fault, Layer, Refusal};
 use marks::LinkOptions;
 use source::{ExportsKind, ImportKind, ImportRecord, Module, ModuleSource, NormalModule};
-
-pub fn link_fault(refusal: Refusal, at: usize, record: usize) -> Fault
-    ensures { result ≡ link_fault refusal at «record» }
-{
-    Fault {
-        refusal,
-        layer: Layer::Link,
-        place: Place { at, record },
-    }
-}
 
 fn is_past_end<S: ModuleSource>(source: &S, target: Option<u32>) -> bool
     ensures { result ≡ past_end (S.meaning source.now) target }
 {
-    match target {
-        Some(t) => t as usize >= source.module_count(),
-        None => false,
-    }
+    target.is_some_and(|t| t as usize >= source.module_count())
 }
 
 fn is_style(kind: ImportKind) -> bool
     ensures { result ≡ is_style kind }
 {
-    match kind {
-        ImportKind::AtImport | ImportKind::UrlImport => true,
-        _ => false,
-    }
+    matches!(kind, ImportKind::AtImport | ImportKind::UrlImport)
 }
 
 fn is_style_of_normal<S: ModuleSource>(source: &S, record: ImportRecord) -> bool
@@ -43,30 +26,14 @@ fn is_style_of_normal<S: ModuleSource>(source: &S, record: ImportRecord) -> bool
     let Some(t) = record.target else {
         return false;
     };
-    match source.module(t as usize) {
-        Module::External => false,
-        Module::Normal(_) => is_style(record.kind),
-    }
+    matches!(source.module(t as usize), Module::Normal(_)) && is_style(record.kind)
 }
 
 fn is_star_misplaced(importer: NormalModule, record: ImportRecord) -> bool
     ensures { result ≡ star_misplaced importer «record» }
 {
-    match (record.star, record.kind, importer.scanned) {
-        (false, _, _) => false,
-        (true, ImportKind::Import, ExportsKind::Esm) => false,
-        _ => true,
-    }
-}
-
-fn acts_as_require(options: LinkOptions, kind: ImportKind) -> bool
-    ensures { result ≡ acts_as_require options kind }
-{
-    match kind {
-        ImportKind::Require => true,
-        ImportKind::DynamicImport => options.splitting_off,
-        _ => false,
-    }
+    let placed = record.kind == ImportKind::Import && importer.scanned == ExportsKind::Esm;
+    record.star && !placed
 }
 
 fn is_runtime_required<S: ModuleSource>(
@@ -76,10 +43,7 @@ fn is_runtime_required<S: ModuleSource>(
 ) -> bool
     ensures { result ≡ runtime_required options (S.meaning source.now) «record» }
 {
-    match record.target {
-        Some(t) => (t == source.runtime()) & acts_as_require(options, record.kind),
-        None => false,
-    }
+    record.target == Some(source.runtime()) && options.acts_as_require(record.kind)
 }
 
 // One record of module m.
@@ -94,16 +58,16 @@ fn check_record<S: ModuleSource>(
     ensures { result ≡ record_verdict options (S.meaning source.now) importer m k «record» }
 {
     if is_past_end(source, record.target) {
-        return Err(link_fault(Refusal::TargetPastEnd, m, k));
+        return Err(Refusal::TargetPastEnd.found_by(Layer::Link, m, k));
     }
     if is_style_of_normal(source, record) {
-        return Err(link_fault(Refusal::StyleImportOfNormal, m, k));
+        return Err(Refusal::StyleImportOfNormal.found_by(Layer::Link, m, k));
     }
     if is_star_misplaced(importer, record) {
-        return Err(link_fault(Refusal::StarMisplaced, m, k));
+        return Err(Refusal::StarMisplaced.found_by(Layer::Link, m, k));
     }
     if is_runtime_required(source, options, record) {
-        return Err(link_fault(Refusal::RuntimeRequired, m, k));
+        return Err(Refusal::RuntimeRequired.found_by(Layer::Link, m, k));
     }
     Ok(())
 }
