@@ -2,7 +2,8 @@
 ghost use Rattle.std.specs.Prelude.{◌≡◌, min, length, Some, None, Ok, Err, MatchResult};
 ghost use Rattle.faults.specs.declared.Refusal.TheVariants.{NotAtThisStage};
 ghost use Rattle.marks.specs.Passes.{BeginDid, KindsDid, StarDid, WrapDid, AwaitDid, EntriesDid, FinishDid};
-ghost use Rattle.lawful.specs.Lawful.{link_fault};
+ghost use Rattle.faults.specs.Faults.{Verdict};
+ghost use Rattle.lawful.specs.Lawful.{link_fault, source_verdict};
 ghost use Rattle.link.specs.declared.stage.Call.TheVariants.{Begin, Kinds, Star, Wrap, Await, Entries, Finish};
 ghost use Rattle.link.specs.declared.stage.Stage.TheVariants.{Fresh};
 ghost use Rattle.link.specs.Stages.{after};
@@ -12,12 +13,13 @@ use crate::stage::{Call, Stage, stage_after};
 use dynamic_exports::determine_dynamic_exports;
 use entries::{count_entries, determine_entries};
 use exports_kind::determine_exports_kinds;
-use faults::{Fault, Layer, Place, Refusal};
+use faults::{Fault, Layer, Refusal};
 use lawful::{Lent, check_source};
 use marks::{AwaitRow, LinkOptions, MarkRow, OutputFormat, WrapperRow};
 use source::ModuleSource;
 use spread::{Arrow, EntrySet, YesNo};
 use tla::{count_await_rows, find_awaiting, mark_awaiting, write_await_rows_once};
+use ways::Checked;
 use wrappers::{begin_rows, count_wrappers, finish_rows, write_wrappers};
 use wrapping::wrap_modules;
 
@@ -28,24 +30,17 @@ pub struct Link {
     stage: Stage,
 }
 
+fn refused(refusal: Refusal) -> Fault
+    ensures { result ≡ link_fault refusal 0 0 }
+{
+    refusal.found_by(Layer::Link, 0, 0)
+}
+
 // The stage after the call, or refusal 1.
 fn next_stage(stage: Stage, call: Call) -> Result<Stage, Fault>
     ensures { MatchResult result (λ next. after stage call ≡ Some next) (λ f. (after stage call ≡ None) × (f ≡ link_fault NotAtThisStage 0 0)) }
 {
-    match stage_after(stage, call) {
-        Some(next) => Ok(next),
-        None => Err(refused(Refusal::NotAtThisStage)),
-    }
-}
-
-fn refused(refusal: Refusal) -> Fault
-    ensures { result ≡ link_fault refusal 0 0 }
-{
-    Fault {
-        refusal,
-        layer: Layer::Link,
-        place: Place { at: 0, record: 0 },
-    }
+    stage_after(stage, call).ok_or(refused(Refusal::NotAtThisStage))
 }
 
 impl Link {
@@ -65,6 +60,21 @@ impl Link {
         }
     }
 
+    // The stage after the call, where the stage, the source and the slices let it happen, or the first fault.
+    fn admit<S: ModuleSource>(
+        &self,
+        call: Call,
+        source: &S,
+        marks: usize,
+        work: Option<(usize, usize)>,
+    ) -> Result<Stage, Fault>
+        ensures { MatchResult result (λ next. (after self.now.stage call ≡ Some next) × (source_verdict self.now.options (S.meaning source.now) (record { marks = marks; work = work }) ≡ Ok tt)) (λ f. (own : Verdict) → call_verdict call self.now.stage self.now.options (S.meaning source.now) (record { marks = marks; work = work }) own ≡ Err f) }
+    {
+        let next = next_stage(self.stage, call)?;
+        check_source(source, self.options, Lent { marks, work })?;
+        Ok(next)
+    }
+
     /// Keeps the options, writes the scanned kinds and clears the rest of every mark.
     pub fn begin<S: ModuleSource>(
         &mut self,
@@ -77,12 +87,8 @@ impl Link {
         ensures options { self.new.options ≡ options_left result options self.old.options }
         ensures marks { Leaves (BeginDid (S.meaning source.now)) result marks.old marks.new }
     {
-        let stage = next_stage(self.stage, Call::Begin)?;
-        let lent = Lent {
-            marks: marks.len(),
-            work: None,
-        };
-        check_source(source, options, lent)?;
+        let begun = Link { options, ..*self };
+        let stage = begun.admit(Call::Begin, source, marks.len(), None)?;
         begin_rows(source, marks);
         self.options = options;
         self.stage = stage;
@@ -96,12 +102,7 @@ impl Link {
         ensures options { self.new.options ≡ self.old.options }
         ensures marks { Leaves (KindsDid (S.meaning source.now) self.old.options) result marks.old marks.new }
     {
-        let stage = next_stage(self.stage, Call::Kinds)?;
-        let lent = Lent {
-            marks: marks.len(),
-            work: None,
-        };
-        check_source(source, self.options, lent)?;
+        let stage = self.admit(Call::Kinds, source, marks.len(), None)?;
         determine_exports_kinds(source, self.options, marks);
         self.stage = stage;
         Ok(())
@@ -121,12 +122,9 @@ impl Link {
         ensures options { self.new.options ≡ self.old.options }
         ensures marks { Leaves (StarDid (S.meaning source.now) self.old.options) result marks.old marks.new }
     {
-        let stage = next_stage(self.stage, Call::Star)?;
-        let lent = Lent {
-            marks: marks.len(),
-            work: Some((arrows.len(), facts.len().min(starred.len()))),
-        };
-        check_source(source, self.options, lent)?;
+        let work = Some((arrows.len(), facts.len().min(starred.len())));
+        let stage = self.admit(Call::Star, source, marks.len(), work)?;
+        let source = &Checked::new(source);
         determine_dynamic_exports(source, marks, facts, starred, arrows);
         self.stage = stage;
         Ok(())
@@ -146,12 +144,9 @@ impl Link {
         ensures options { self.new.options ≡ self.old.options }
         ensures marks { Leaves (WrapDid (S.meaning source.now) self.old.options) result marks.old marks.new }
     {
-        let stage = next_stage(self.stage, Call::Wrap)?;
-        let lent = Lent {
-            marks: marks.len(),
-            work: Some((arrows.len(), facts.len().min(flags.len()))),
-        };
-        check_source(source, self.options, lent)?;
+        let work = Some((arrows.len(), facts.len().min(flags.len())));
+        let stage = self.admit(Call::Wrap, source, marks.len(), work)?;
+        let source = &Checked::new(source);
         wrap_modules(source, marks, facts, flags, arrows);
         self.stage = stage;
         Ok(())
@@ -175,16 +170,13 @@ impl Link {
         ensures marks { Leaves (AwaitDid (S.meaning source.now) self.old.options) result marks.old marks.new }
         ensures list { AwaitLeaves (S.meaning source.now) result list.old list.new }
     {
-        let stage = next_stage(self.stage, Call::Await)?;
         let shortest = facts
             .len()
             .min(entered.len())
             .min(ends.len().min(found.len()));
-        let lent = Lent {
-            marks: marks.len(),
-            work: Some((arrows.len(), shortest)),
-        };
-        check_source(source, self.options, lent)?;
+        let work = Some((arrows.len(), shortest));
+        let stage = self.admit(Call::Await, source, marks.len(), work)?;
+        let source = &Checked::new(source);
         find_awaiting(source, facts, arrows);
         if list.len() < count_await_rows(source, facts) {
             return Err(refused(Refusal::ResultsTooShort));
@@ -208,12 +200,9 @@ impl Link {
         ensures options { self.new.options ≡ self.old.options }
         ensures marks { Leaves (EntriesDid (S.meaning source.now) self.old.options) result marks.old marks.new }
     {
-        let stage = next_stage(self.stage, Call::Entries)?;
-        let lent = Lent {
-            marks: marks.len(),
-            work: Some((arrows.len(), facts.len())),
-        };
-        check_source(source, self.options, lent)?;
+        let work = Some((arrows.len(), facts.len()));
+        let stage = self.admit(Call::Entries, source, marks.len(), work)?;
+        let source = &Checked::new(source);
         if count_entries(source) > 64 {
             return Err(refused(Refusal::TooManyEntries));
         }
@@ -235,12 +224,7 @@ impl Link {
         ensures marks { Leaves (FinishDid (S.meaning source.now) self.old.options) result marks.old marks.new }
         ensures list { ListLeaves (wrappers_of self.old.options (S.meaning source.now) marks.old) result list.old list.new }
     {
-        let stage = next_stage(self.stage, Call::Finish)?;
-        let lent = Lent {
-            marks: marks.len(),
-            work: None,
-        };
-        check_source(source, self.options, lent)?;
+        let stage = self.admit(Call::Finish, source, marks.len(), None)?;
         if list.len() < count_wrappers(source, self.options, marks) {
             return Err(refused(Refusal::ResultsTooShort));
         }

@@ -2,7 +2,7 @@
 ghost use Rattle.std.specs.Prelude.{◌≡◌};
 ghost use Rattle.link.specs.Stages.{after};
 
-#[derive(Clone, Copy)]
+#[derive(Clone, Copy, PartialEq, Eq, Debug)]
 pub enum Call {
     Begin,
     Kinds,
@@ -14,7 +14,7 @@ pub enum Call {
 }
 
 /// What is settled since the link began.
-#[derive(Clone, Copy)]
+#[derive(Clone, Copy, PartialEq, Eq, Debug)]
 pub struct Settled {
     pub kinds: bool,
     pub star: bool,
@@ -22,7 +22,7 @@ pub struct Settled {
     pub awaits: bool,
 }
 
-#[derive(Clone, Copy)]
+#[derive(Clone, Copy, PartialEq, Eq, Debug)]
 pub enum Stage {
     Fresh,
     Open(Settled),
@@ -52,11 +52,7 @@ pub fn stage_after(stage: Stage, call: Call) -> Option<Stage>
         (Stage::Open(s), Call::Await) => Some(Stage::Open(Settled { awaits: true, ..s })),
         (Stage::Open(s), Call::Entries) => Some(Stage::Open(s)),
         (Stage::Open(s), Call::Finish) => {
-            if s.kinds & s.star & s.wrap & s.awaits {
-                Some(Stage::Closed)
-            } else {
-                None
-            }
+            (s.kinds & s.star & s.wrap & s.awaits).then_some(Stage::Closed)
         }
         (Stage::Fresh | Stage::Closed, _) => None,
     }
