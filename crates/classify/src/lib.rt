@@ -1,8 +1,7 @@
 // The whole job of a link: every call in its turn, over memory that is sized by the source.
 #![tactic(auto)]
 
-mod error;
 mod job;
 
-pub use error::ClassifyError;
 pub use job::{Classified, classify};
+pub use run_list::ListError as ClassifyError;

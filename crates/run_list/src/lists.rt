@@ -9,7 +9,7 @@ use link::Link;
 use marks::{AwaitRow, Helper, LinkOptions, MarkRow, WrapKind, WrapperRow};
 use runs::run_to_end;
 use settled::{Asked, Pass};
-use source::{ExportsKind, MODULE_LIMIT, ModuleSource, RECORD_LIMIT, Span};
+use source::{ExportsKind, MODULE_LIMIT, ModuleSource, RECORD_LIMIT, Span, count_records};
 use spread::{Arrow, EntrySet, YesNo};
 use std::alloc::{AllocError, Global};
 
@@ -73,17 +73,14 @@ fn modules_of<S: ModuleSource>(source: &S) -> usize
     source.module_count().min(MODULE_LIMIT)
 }
 
-/// How many records the modules have, as far as the limit goes.
+/// How many records the modules have, as far as the limit goes; of too many modules none are counted.
 fn records_of<S: ModuleSource>(source: &S) -> usize
     ensures { result ≤ 32768 }
 {
-    let mut total = 0usize;
-    for m in 0..modules_of(source) {
-        total = total
-            .saturating_add(source.record_count(m))
-            .min(RECORD_LIMIT);
+    if source.module_count() > MODULE_LIMIT {
+        return 0;
     }
-    total
+    count_records(source).unwrap_or(RECORD_LIMIT)
 }
 
 impl Work {
@@ -111,22 +108,16 @@ fn asked(pass: Pass) -> Asked {
 }
 
 fn asked_all(heap: Global, passes: &[Pass]) -> Result<Vec<Asked>, AllocError> {
-    let mut calls = Vec::new(heap);
-    for pass in passes {
-        calls.push(asked(*pass))?;
-    }
-    Ok(calls)
+    Ok(passes.iter().map(|pass| asked(*pass)).collect(heap)?)
 }
 
 // How many rows the last accepted await wrote.
 fn await_rows(calls: &[Asked]) -> usize {
-    let mut rows = 0;
-    for call in calls {
-        if let (Pass::Await, Some(Ok(n))) = (call.pass, call.answer) {
-            rows = n;
-        }
-    }
-    rows
+    let written = |call: &Asked| match (call.pass, call.answer) {
+        (Pass::Await, Some(Ok(n))) => Some(n),
+        _ => None,
+    };
+    calls.iter().rev().find_map(written).unwrap_or(0)
 }
 
 // Begins, makes the calls, and finishes.
@@ -202,23 +193,14 @@ pub fn run_list<S: ModuleSource>(
 // Finish makes begin's checks of the same source again and has room for every wrapper, so it can only be refused for the
 // stage, which begin never is.
 fn refused_begin(answer: Result<usize, Fault>) -> Option<Fault> {
-    match answer {
-        Ok(_) => None,
-        Err(fault) => match fault.refusal {
-            Refusal::NotAtThisStage => None,
-            _ => Some(fault),
-        },
-    }
+    answer
+        .err()
+        .filter(|fault| fault.refusal != Refusal::NotAtThisStage)
 }
 
 impl ListRun {
     /// Why the first refused pass was refused, if one was.
     pub fn refused_pass(&self) -> Option<Fault> {
-        for call in self.calls.as_slice() {
-            if let Some(Err(fault)) = call.answer {
-                return Some(fault);
-            }
-        }
-        None
+        self.calls.iter().find_map(|call| call.answer?.err())
     }
 }
