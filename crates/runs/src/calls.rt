@@ -15,10 +15,7 @@ use spread::{Arrow, EntrySet, YesNo};
 fn uncounted(answer: Result<(), Fault>) -> Result<usize, Fault>
     ensures { result ≡ counted answer 0 }
 {
-    match answer {
-        Ok(()) => Ok(0),
-        Err(fault) => Err(fault),
-    }
+    answer.map(|()| 0)
 }
 
 // Asks for one pass, which may use all that it is lent.
@@ -119,22 +116,16 @@ pub fn run<S: ModuleSource>(
     ensures settles { EveryOrder result (S.meaning source.now) options calls.new marks.new }
 {
     link.begin(source, options, marks)?;
-    for i in 0..calls.len() {
-        let asked = calls[i];
+    for call in calls.iter_mut() {
         let answer = make(
-            link, source, marks, facts, flags, sets, ends, found, arrows, list, asked,
+            link, source, marks, facts, flags, sets, ends, found, arrows, list, *call,
         );
-        calls[i] = Asked {
-            answer: Some(answer),
-            ..asked
-        };
+        call.answer = Some(answer);
     }
     Ok(())
 }
 
 /// What `run` promises leaves it no choice.
-pub fn one_run() -> u8
+pub fn one_run()
     ensures { OneRun }
-{
-    0
-}
+{}

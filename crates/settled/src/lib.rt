@@ -10,18 +10,16 @@ mod calls;
 pub use calls::{Asked, Pass};
 
 /// Whatever the order of the calls, the marks settle, and there is one way to be settled.
-pub fn every_order_settles() -> u8
+pub fn every_order_settles()
     ensures settles { EveryOrderSettles }
     ensures one { OneSettled }
     ensures outcome { OneOutcome }
     ensures first { KindByFirst }
 {
-    0
 }
 
 /// What the settled marks are in nine small graphs.
-pub fn worked_examples() -> u8
+pub fn worked_examples()
     ensures { Worked }
 {
-    0
 }
