@@ -7,7 +7,7 @@ use crate::error::ListError;
 use faults::{Fault, Refusal};
 use link::Link;
 use marks::{AwaitRow, Helper, LinkOptions, MarkRow, WrapKind, WrapperRow};
-use runs::run_to_end;
+use runs::{Work, run_to_end};
 use settled::{Asked, Pass};
 use source::{ExportsKind, MODULE_LIMIT, ModuleSource, RECORD_LIMIT, Span, count_records};
 use spread::{Arrow, EntrySet, YesNo};
@@ -27,7 +27,7 @@ pub struct ListRun {
 
 /// What the calls work with, one entry a module or one a record.
 #[derive(Drop)]
-struct Work {
+struct Memory {
     facts: Vec<YesNo>,
     flags: Vec<YesNo>,
     ends: Vec<usize>,
@@ -83,9 +83,9 @@ fn records_of<S: ModuleSource>(source: &S) -> usize
     count_records(source).unwrap_or(RECORD_LIMIT)
 }
 
-impl Work {
-    fn sized(heap: Global, modules: usize, records: usize) -> Result<Work, AllocError> {
-        Ok(Work {
+impl Memory {
+    fn sized(heap: Global, modules: usize, records: usize) -> Result<Memory, AllocError> {
+        Ok(Memory {
             facts: vec![in heap; YesNo(false); modules]?,
             flags: vec![in heap; YesNo(false); modules]?,
             ends: vec![in heap; 0usize; modules]?,
@@ -125,7 +125,7 @@ fn run_calls<S: ModuleSource>(
     source: &S,
     options: LinkOptions,
     marks: &mut [MarkRow],
-    work: &mut Work,
+    memory: &mut Memory,
     list: &mut [AwaitRow],
     calls: &mut [Asked],
     wrappers: &mut [WrapperRow],
@@ -133,20 +133,16 @@ fn run_calls<S: ModuleSource>(
     ensures { EndsSettled result (S.meaning source.now) options marks.new wrappers.new }
 {
     let mut link = Link::new();
+    let mut work = Work {
+        facts: memory.facts.as_mut_slice(),
+        flags: memory.flags.as_mut_slice(),
+        sets: memory.sets.as_mut_slice(),
+        ends: memory.ends.as_mut_slice(),
+        found: memory.found.as_mut_slice(),
+        arrows: memory.arrows.as_mut_slice(),
+    };
     run_to_end(
-        &mut link,
-        source,
-        options,
-        marks,
-        work.facts.as_mut_slice(),
-        work.flags.as_mut_slice(),
-        work.sets.as_mut_slice(),
-        work.ends.as_mut_slice(),
-        work.found.as_mut_slice(),
-        work.arrows.as_mut_slice(),
-        list,
-        calls,
-        wrappers,
+        &mut link, source, options, marks, &mut work, list, calls, wrappers,
     )
 }
 
@@ -163,7 +159,7 @@ pub fn run_list<S: ModuleSource>(
     let modules = modules_of(source);
     let records = records_of(source);
     let mut marks = vec![in heap; blank_mark(); modules]?;
-    let mut work = Work::sized(heap, modules, records)?;
+    let mut memory = Memory::sized(heap, modules, records)?;
     let mut awaits = vec![in heap; blank_await(); records]?;
     let mut wrappers = vec![in heap; blank_wrapper(); modules]?;
     let mut calls = asked_all(heap, passes)?;
@@ -171,7 +167,7 @@ pub fn run_list<S: ModuleSource>(
         source,
         options,
         marks.as_mut_slice(),
-        &mut work,
+        &mut memory,
         awaits.as_mut_slice(),
         calls.as_mut_slice(),
         wrappers.as_mut_slice(),

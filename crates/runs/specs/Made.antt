@@ -2,7 +2,8 @@
 --
 --   At              what stands between two calls: the link, the marks, and the list of await rows
 --   call_of         the call that a pass is
---   shortest        the shortest of the lent work slices that have a place for each module
+--   shortest, places_of   the shortest of the lent work slices that have a place for each module
+--   SameSizes       work slices are as long as they were
 --   work_of, lent_to   what a pass is lent: kinds works with no slices
 --   Answers         the answer that the link gives at that stage
 --   ListAfter       only await writes rows
@@ -32,6 +33,7 @@ use Rattle.link.specs.declared.stage.Stage.{Stage}
 use Rattle.link.specs.declared.stage.Stage.TheVariants.{Open}
 use Rattle.link.specs.Stages.{unsettled}
 use Rattle.link.specs.Calls.{call_verdict, entries_verdict, stage_left, counted, Leaves, AwaitAnswer, AwaitLeaves}
+use Rattle.runs.specs.declared.work.Work.{Work}
 use Rattle.settled.specs.declared.calls.Asked.{Asked}
 use Rattle.settled.specs.declared.calls.Pass.{Pass}
 use Rattle.settled.specs.declared.calls.Pass.TheVariants.{Kinds, Star, Wrap, Await, Entries}
@@ -52,6 +54,13 @@ call_of Entries = call.Entries
 
 abbrev pub shortest : ℕ → ℕ → ℕ → ℕ → ℕ → ℕ
 shortest facts flags sets ends found = min (min facts flags) (min sets (min ends found))
+
+abbrev pub places_of : Work → ℕ
+places_of work = shortest (length work.facts.now) (length work.flags.now) (length work.sets.now) (length work.ends.now) (length work.found.now)
+
+pub record SameSizes (old new : Work) : Type 0 where
+  pub arrows : length new.arrows.now ≡ length old.arrows.now
+  pub places : places_of new ≡ places_of old
 
 abbrev pub work_of : Pass → ℕ → ℕ → Option (ℕ × ℕ)
 work_of Kinds arrows places = None

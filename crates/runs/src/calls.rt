@@ -1,9 +1,10 @@
 // A link is begun, and then asked for one call after another.
-ghost use Rattle.std.specs.Prelude.{◌≡◌, min, length, None, Ok};
+ghost use Rattle.std.specs.Prelude.{◌≡◌, length, None, Ok};
 ghost use Rattle.link.specs.declared.stage.Call.TheVariants.{Begin};
 ghost use Rattle.link.specs.Calls.{call_verdict, counted};
-ghost use Rattle.runs.specs.Made.{At, shortest, lent_to, Made, MadeOf, RunLeaves, EveryOrder, OneRun};
+ghost use Rattle.runs.specs.Made.{At, places_of, shortest, lent_to, Made, MadeOf, RunLeaves, EveryOrder, OneRun};
 
+use crate::work::Work;
 use faults::Fault;
 use link::Link;
 use marks::{AwaitRow, LinkOptions, MarkRow};
@@ -24,30 +25,34 @@ fn ask<S: ModuleSource>(
     source: &S,
     pass: Pass,
     marks: &mut [MarkRow],
-    facts: &mut [YesNo],
-    flags: &mut [YesNo],
-    sets: &mut [EntrySet],
-    ends: &mut [usize],
-    found: &mut [Option<usize>],
-    arrows: &mut [Arrow],
+    work: &mut Work<'_>,
     list: &mut [AwaitRow],
 ) -> Result<usize, Fault>
-    requires flags { length flags.old ≡ length facts.old }
-    requires sets { length sets.old ≡ length facts.old }
-    requires ends { length ends.old ≡ length facts.old }
-    requires found { length found.old ≡ length facts.old }
-    ensures { Made (S.meaning source.now) pass (lent_to pass (length marks.old) (length arrows.old) (length facts.old)) (length list.old) result (record { link = link.old; marks = marks.old; list = list.old }) (record { link = link.new; marks = marks.new; list = list.new }) }
+    requires flags { length work.old.flags.now ≡ length work.old.facts.now }
+    requires sets { length work.old.sets.now ≡ length work.old.facts.now }
+    requires ends { length work.old.ends.now ≡ length work.old.facts.now }
+    requires found { length work.old.found.now ≡ length work.old.facts.now }
+    ensures { Made (S.meaning source.now) pass (lent_to pass (length marks.old) (length work.old.arrows.now) (length work.old.facts.now)) (length list.old) result (record { link = link.old; marks = marks.old; list = list.old }) (record { link = link.new; marks = marks.new; list = list.new }) }
 {
     match pass {
         Pass::Kinds => uncounted(link.kinds(source, marks)),
-        Pass::Star => uncounted(link.star(source, marks, facts, flags, arrows)),
-        Pass::Wrap => uncounted(link.wrap(source, marks, facts, flags, arrows)),
-        Pass::Await => link.awaits(source, marks, facts, flags, ends, found, arrows, list),
-        Pass::Entries => uncounted(link.entries(source, marks, sets, arrows)),
+        Pass::Star => uncounted(link.star(source, marks, work.facts, work.flags, work.arrows)),
+        Pass::Wrap => uncounted(link.wrap(source, marks, work.facts, work.flags, work.arrows)),
+        Pass::Await => link.awaits(
+            source,
+            marks,
+            work.facts,
+            work.flags,
+            work.ends,
+            work.found,
+            work.arrows,
+            list,
+        ),
+        Pass::Entries => uncounted(link.entries(source, marks, work.sets, work.arrows)),
     }
 }
 
-// The shortest of the work slices that have a place for each module.
+// The shortest of the slices that have a place for each module.
 fn shortest(
     facts: &[YesNo],
     flags: &[YesNo],
@@ -62,6 +67,7 @@ fn shortest(
 }
 
 // Makes one call, with no more of the slices than it asks for.
+// The slices stand apart: a struct cut into parts of its slices, field by field, is not covered by the check.
 fn make<S: ModuleSource>(
     link: &mut Link,
     source: &S,
@@ -80,17 +86,20 @@ fn make<S: ModuleSource>(
     let places = asked.places.min(shortest(facts, flags, sets, ends, found));
     let steps = asked.arrows.min(arrows.len());
     let room = asked.results.min(list.len());
+    let mut part = Work {
+        facts: &mut facts[..places],
+        flags: &mut flags[..places],
+        sets: &mut sets[..places],
+        ends: &mut ends[..places],
+        found: &mut found[..places],
+        arrows: &mut arrows[..steps],
+    };
     ask(
         link,
         source,
         asked.pass,
         marks,
-        &mut facts[..places],
-        &mut flags[..places],
-        &mut sets[..places],
-        &mut ends[..places],
-        &mut found[..places],
-        &mut arrows[..steps],
+        &mut part,
         &mut list[..room],
     )
 }
@@ -102,23 +111,28 @@ pub fn run<S: ModuleSource>(
     source: &S,
     options: LinkOptions,
     marks: &mut [MarkRow],
-    facts: &mut [YesNo],
-    flags: &mut [YesNo],
-    sets: &mut [EntrySet],
-    ends: &mut [usize],
-    found: &mut [Option<usize>],
-    arrows: &mut [Arrow],
+    work: &mut Work<'_>,
     list: &mut [AwaitRow],
     calls: &mut [Asked],
 ) -> Result<(), Fault>
     ensures answer { result ≡ call_verdict Begin link.old.stage options (S.meaning source.now) (record { marks = length marks.old; work = None }) (Ok tt) }
-    ensures calls { RunLeaves result (S.meaning source.now) options (length arrows.old) (shortest (length facts.old) (length flags.old) (length sets.old) (length ends.old) (length found.old)) calls.old calls.new (record { link = link.old; marks = marks.old; list = list.old }) (record { link = link.new; marks = marks.new; list = list.new }) }
+    ensures calls { RunLeaves result (S.meaning source.now) options (length work.old.arrows.now) (places_of work.old) calls.old calls.new (record { link = link.old; marks = marks.old; list = list.old }) (record { link = link.new; marks = marks.new; list = list.new }) }
     ensures settles { EveryOrder result (S.meaning source.now) options calls.new marks.new }
 {
     link.begin(source, options, marks)?;
     for call in calls.iter_mut() {
         let answer = make(
-            link, source, marks, facts, flags, sets, ends, found, arrows, list, *call,
+            link,
+            source,
+            marks,
+            work.facts,
+            work.flags,
+            work.sets,
+            work.ends,
+            work.found,
+            work.arrows,
+            list,
+            *call,
         );
         call.answer = Some(answer);
     }

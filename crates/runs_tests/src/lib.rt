@@ -7,7 +7,7 @@ mod tests {
     use link::Link;
     use marks::{AwaitRow, Helper, LinkOptions, MarkRow, OutputFormat, WrapKind, WrapperRow};
     use row_source::{ModuleRow, RowSource};
-    use runs::{run, run_to_end};
+    use runs::{Work, run, run_to_end};
     use settled::{Asked, Pass};
     use source::{ExportsKind, ImportKind, ImportRecord, Module, NormalModule, Span};
     use spread::{Arrow, EntrySet, YesNo};
@@ -135,12 +135,14 @@ mod tests {
             &source,
             options(),
             marks,
-            &mut [YesNo(false); 4],
-            &mut [YesNo(false); 4],
-            &mut [EntrySet(0); 4],
-            &mut [0; 4],
-            &mut [None; 4],
-            &mut [Arrow { from: 0, to: 0 }; 3],
+            &mut Work {
+                facts: &mut [YesNo(false); 4],
+                flags: &mut [YesNo(false); 4],
+                sets: &mut [EntrySet(0); 4],
+                ends: &mut [0; 4],
+                found: &mut [None; 4],
+                arrows: &mut [Arrow { from: 0, to: 0 }; 3],
+            },
             list,
             calls,
         );
@@ -202,12 +204,14 @@ mod tests {
             &source,
             options(),
             marks,
-            &mut [YesNo(false); 4],
-            &mut [YesNo(false); 4],
-            &mut [EntrySet(0); 4],
-            &mut [0; 4],
-            &mut [None; 4],
-            &mut [Arrow { from: 0, to: 0 }; 3],
+            &mut Work {
+                facts: &mut [YesNo(false); 4],
+                flags: &mut [YesNo(false); 4],
+                sets: &mut [EntrySet(0); 4],
+                ends: &mut [0; 4],
+                found: &mut [None; 4],
+                arrows: &mut [Arrow { from: 0, to: 0 }; 3],
+            },
             &mut no_rows(),
             calls,
             wrappers,

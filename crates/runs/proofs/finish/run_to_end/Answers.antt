@@ -1,7 +1,7 @@
 use Rattle.std.proofs.Common.{length, is_ok, None, Ok, sym, refl, ap, subst}
 use Rattle.faults.specs.Faults.{Verdict}
 use Rattle.link.specs.declared.stage.Call.TheVariants.{Begin}
-use Rattle.runs.specs.Made.{At, shortest}
+use Rattle.runs.specs.Made.{At, places_of}
 use Rattle.runs.specs.Ended.{EndDid, EndLeaves}
 use Rattle.runs.proofs.Orders.{call_lawful}
 use Rattle.runs.proofs.Ends.{end_settles}
@@ -11,8 +11,8 @@ pub returns : goal.returns
 returns g c =
     let w = g.S.ModuleSource.meaning c.args.source.now in
     let o = c.args.options in
-    let arrows = length c.args.arrows.now in
-    let places = shortest (length c.args.facts.now) (length c.args.flags.now) (length c.args.sets.now) (length c.args.ends.now) (length c.args.found.now) in
+    let arrows = length c.args.work.now.arrows.now in
+    let places = places_of c.args.work.now in
     let ran = c.in_ok-run.ensures in
     let old : At = record { link = c.args.link.now; marks = c.args.marks.now; list = c.args.list.now } in
     let last : At = record { link = c.run.new.link; marks = c.run.new.marks; list = c.run.new.list } in
