@@ -31,6 +31,7 @@ fn has_star<S: ModuleSource>(source: &S, m: usize) -> bool
     let Module::Normal(_) = source.module(m) else {
         return false;
     };
+    // A loop: the proof of `any` over numbers did not close.
     for k in 0..source.record_count(m) {
         if source.record(m, k).star {
             return true;

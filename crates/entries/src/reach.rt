@@ -37,6 +37,7 @@ fn entry_starts<S: ModuleSource>(source: &S, facts: &mut [EntrySet])
     requires facts { count_of (S.meaning source.now) ≤ length facts.old }
     ensures { Ranked (count_of (S.meaning source.now)) (S.meaning source.now) facts.new }
 {
+    // The next rank depends on the modules before, so that no rule of one place makes the set.
     let mut next: u32 = 0;
     for m in 0..source.module_count() {
         if is_entry(source, m) {

@@ -82,6 +82,7 @@ pub fn determine_exports_kinds<S: ModuleSource>(
     ensures { KindsDid (S.meaning source.now) options rows.old rows.new }
 {
     read_rows(source, rows);
+    // Rows are read and written at the targets of records, in scan order, so that no iterator over them serves.
     for m in 0..source.module_count() {
         let Module::Normal(importer) = source.module(m) else {
             continue;

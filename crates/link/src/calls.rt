@@ -130,6 +130,7 @@ impl Link {
         Ok(())
     }
 
+    // As `star`, but for its pass: a function with the pass as a parameter would have both contracts to say.
     /// Wraps what wrapped modules pull along, and marks what is required.
     pub fn wrap<S: ModuleSource>(
         &mut self,
@@ -153,6 +154,7 @@ impl Link {
     }
 
     /// Marks the modules that wait for a top-level `await`, and writes one row for each `require` of such a module.
+    // Slices stand apart, since refusal 5 speaks of the length of each.
     pub fn awaits<S: ModuleSource>(
         &mut self,
         source: &S,

@@ -9,6 +9,7 @@ pub fn write_front<T: Copy, F: Fn(usize, T) -> T>(items: &mut [T], count: usize,
     ensures each { (m : ℕ) (d : T) → m < count → F.post rule m (slice_index_or items.old m d) (slice_index_or items.new m d) }
     ensures rest { (m : ℕ) (d : T) → count ≤ m → slice_index_or items.new m d ≡ slice_index_or items.old m d }
 {
+    // By number: of items that an adapter of `iter_mut` writes no proof is left.
     for m in 0..count {
         items[m] = rule(m, items[m]);
     }

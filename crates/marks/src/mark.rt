@@ -126,6 +126,7 @@ impl Mark {
         }
     }
 
+    // One method for each field: a closure over the row could break the rule on wrappers.
     pub fn with_required(self, required: bool) -> Mark
         ensures { result ≡ with_required self required }
     {

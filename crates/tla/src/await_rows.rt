@@ -42,6 +42,7 @@ pub fn count_await_rows<S: Linkable>(source: &S, facts: &[YesNo]) -> usize
     ensures only { (other : ℕ) → RowCount (S.meaning source.now) other → other ≡ result }
 {
     let mut n: usize = 0;
+    // Counted by hand: the proof of `filter(..).count()` over numbers did not close.
     for m in 0..source.module_count() {
         for k in 0..source.record_count(m) {
             let (kind, target) = source.look(m, k);
@@ -167,6 +168,7 @@ pub fn write_await_rows<S: Linkable>(
 }
 
 /// The same with one search for each module that is asked for: what a search found is known from then on.
+// Slices stand apart, since the link's refusal 5 speaks of the length of each.
 pub fn write_await_rows_once<S: Linkable>(
     source: &S,
     facts: &[YesNo],

@@ -55,6 +55,8 @@ fn copy_arrows<S: Linkable>(source: &S, way: Way, arrows: &mut [Arrow]) -> usize
     ensures { Copied way (S.meaning source.now) arrows.new result }
 {
     let mut n: usize = 0;
+    // A source answers by number: this scan of its records is written out wherever it fills something, since of what a
+    // closure or an iterator's consumer changes no proof is left.
     for m in 0..source.module_count() {
         let Module::Normal(_) = source.module(m) else {
             continue;
@@ -65,6 +67,7 @@ fn copy_arrows<S: Linkable>(source: &S, way: Way, arrows: &mut [Arrow]) -> usize
                 continue;
             };
             if follows(source, way, m, k, kind) {
+                // The arrows are lent memory, so that their count stands beside them.
                 arrows[n] = draw(way, m as u32, t);
                 n += 1;
             }

@@ -19,6 +19,7 @@ pub enum Pick {
 }
 
 // Whether record k of module m, of this kind and to this target, raises the flag there.
+// Seven parameters: what the scan has looked up already is handed on.
 fn picks<S: ModuleSource>(
     source: &S,
     pick: Pick,

@@ -62,6 +62,7 @@ pub fn count_wrappers<S: ModuleSource>(source: &S, options: LinkOptions, rows: &
     ensures { result ≡ length (wrapper_rows (S.meaning source.now) options rows.now (count_of (S.meaning source.now))) }
 {
     let mut n: usize = 0;
+    // Counted by hand: the proof of `filter(..).count()` over numbers did not close.
     for m in 0..source.module_count() {
         if ends_wrapped(options, source.module(m), rows[m]) {
             n += 1;
@@ -87,6 +88,7 @@ pub fn write_wrappers<S: ModuleSource>(
     for m in 0..source.module_count() {
         let row = rows[m];
         if ends_wrapped(options, source.module(m), row) {
+            // The rows are lent memory, so that their count stands beside them.
             list[n] = wrapper_row(options, m as u32, row.kind);
             n += 1;
         }
