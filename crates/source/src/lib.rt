@@ -219,7 +219,7 @@ pub fn count_records<S: ModuleSource>(source: &S) -> Option<usize>
     ensures { MatchOption result (record_limit < record_total (S.meaning source.now)) (λ n. (n ≡ record_total (S.meaning source.now)) × (n ≤ record_limit)) }
 {
     let mut total: usize = 0;
-    // A loop, since it stops at the limit: of a `try_fold` over numbers no sum is proved.
+    // A loop: the proof of a `try_fold` over numbers did not close.
     for m in 0..source.module_count() {
         let more = source.record_count(m);
         if more > RECORD_LIMIT - total {

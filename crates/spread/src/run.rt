@@ -54,7 +54,7 @@ fn sweep_forward<F: Fact>(facts: &mut [F], arrows: &[Arrow]) -> bool
     changed
 }
 
-// The two directions stand apart: with one function over an iterator the proof did not close.
+// The two directions stand apart: a function over any iterator would have to ask that it ends and gives these arrows.
 // Takes each arrow once, last to first, and says whether a fact changed.
 fn sweep_backward<F: Fact>(facts: &mut [F], arrows: &[Arrow]) -> bool
     requires { AllInside (length facts.old) arrows.now }

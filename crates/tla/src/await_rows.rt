@@ -42,7 +42,7 @@ pub fn count_await_rows<S: Linkable>(source: &S, facts: &[YesNo]) -> usize
     ensures only { (other : ℕ) → RowCount (S.meaning source.now) other → other ≡ result }
 {
     let mut n: usize = 0;
-    // Counted by hand: the proof of `filter(..).count()` over numbers did not close.
+    // Counted by hand: even over the numbers of modules the proof of `filter(..).count()` did not close.
     for m in 0..source.module_count() {
         for k in 0..source.record_count(m) {
             let (kind, target) = source.look(m, k);
