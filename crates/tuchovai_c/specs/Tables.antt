@@ -9,7 +9,8 @@ use Rattle.source.specs.Numbers.{exports_number}
 use Rattle.marks.specs.declared.rows.AwaitRow.{AwaitRow}
 use Rattle.marks.specs.declared.rows.MarkRow.{MarkRow}
 use Rattle.marks.specs.declared.rows.WrapperRow.{WrapperRow}
-use Rattle.card.specs.Bytes.{le4, flat}
+use Rattle.std.specs.List.{concat}
+use Rattle.card.specs.Bytes.{le4}
 use Rattle.card.specs.Fields.{bit}
 use Rattle.tuchovai_c.specs.Numbers.{wrap_number, helper_number}
 
@@ -34,4 +35,4 @@ head_bytes marks awaits wrappers = le4 marks ++ (le4 awaits ++ (le4 wrappers ++ 
 abbrev pub table_bytes : List MarkRow → List AwaitRow → List WrapperRow → List ℕ
 table_bytes marks awaits wrappers =
     head_bytes (length marks) (length awaits) (length wrappers)
-    ++ (flat (map mark_bytes marks) ++ (flat (map await_bytes awaits) ++ flat (map wrapper_bytes wrappers)))
+    ++ (concat (map mark_bytes marks) ++ (concat (map await_bytes awaits) ++ concat (map wrapper_bytes wrappers)))

@@ -1,10 +1,9 @@
 use Rattle.std.proofs.Common.{◌<◌, length, ap, ◌∙◌, subst, arith}
 use Rattle.std.proofs.lemmas.List.{take_all}
 use Rattle.std.proofs.ByRecursion.{All-more}
-use Rattle.std.specs.List.{AllByRecursion}
+use Rattle.std.specs.List.{AllByRecursion, concat}
 use Rattle.source.specs.declared.Module.{Module}
 use Rattle.source.specs.Meaning.{past_modules}
-use Rattle.card.specs.Bytes.{flat}
 use Rattle.card.specs.Cards.{encode_modules}
 use Rattle.card.specs.Fields.{await_start, await_end}
 use Rattle.card.specs.Writable.{Fits32}
@@ -47,6 +46,6 @@ returns g c =
     let ss = (g.S.ModuleSource.meaning c.args.source.now).modules in
     let whole = take_all c.loop-m.m ss (omega (arith, c.module_count-m-end.ensures)) in
     record {
-      image = c.loop-m.invariant.1 ∙ ap (λ x. put_at c.args.out.now 16 (flat (encode_modules 0 x))) whole;
+      image = c.loop-m.invariant.1 ∙ ap (λ x. put_at c.args.out.now 16 (concat (encode_modules 0 x))) whole;
       fits = subst (AllByRecursion AwaitFits) whole c.loop-m.invariant.2;
     }

@@ -1,9 +1,8 @@
 use Rattle.std.proofs.Common.{◌+◌, ◌*◌, ◌<◌, map, length, refl, ap, ◌∙◌, subst, arith}
 use Rattle.std.proofs.lemmas.List.{take_all}
 use Rattle.std.proofs.ByRecursion.{All-more}
-use Rattle.std.specs.List.{AllByRecursion}
+use Rattle.std.specs.List.{AllByRecursion, concat}
 use Rattle.source.specs.Meaning.{past_modules}
-use Rattle.card.specs.Bytes.{flat}
 use Rattle.card.specs.Cards.{all_records, encode_record}
 use Rattle.card_writer.specs.Written.{put_at, SpansFit}
 use Rattle.card_writer.proofs.Steps.{put_none, count_more, count_within, records_turn}
@@ -54,7 +53,7 @@ returns g c =
     record {
       image =
           c.loop-m.invariant.1
-          ∙ ap (λ x. put_at c.args.out.now (16 + 24 * c.module_count.result) (flat (map encode_record (all_records x)))) whole
-          ∙ ap (λ n. put_at c.args.out.now (16 + 24 * n) (flat (map encode_record (all_records ss)))) c.module_count.ensures;
+          ∙ ap (λ x. put_at c.args.out.now (16 + 24 * c.module_count.result) (concat (map encode_record (all_records x)))) whole
+          ∙ ap (λ n. put_at c.args.out.now (16 + 24 * n) (concat (map encode_record (all_records ss)))) c.module_count.ensures;
       fits = subst (AllByRecursion SpansFit) whole c.loop-m.invariant.2;
     }
