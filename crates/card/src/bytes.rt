@@ -8,7 +8,7 @@ pub fn bytes_at<const N: usize>(bytes: &[u8], at: usize) -> &[u8; N]
     ensures bytes { result.now ≡ take N (drop at bytes.now) }
     ensures sized { length result.now ≡ N }
 {
-    bytes[at..].first_chunk().unwrap()
+    bytes[at..at + N].first_chunk().unwrap()
 }
 
 pub fn u16_at(bytes: &[u8], at: usize) -> u16
