@@ -11,6 +11,7 @@ pub fn bytes_at<const N: usize>(bytes: &[u8], at: usize) -> &[u8; N]
     bytes[at..at + N].first_chunk().unwrap()
 }
 
+#[tactic(auto, using(crate::proofs::Cuts::u16_read))]
 pub fn u16_at(bytes: &[u8], at: usize) -> u16
     requires { at + 2 ≤ length bytes.now }
     ensures { result ≡ u16_le bytes.now at }
@@ -18,6 +19,7 @@ pub fn u16_at(bytes: &[u8], at: usize) -> u16
     u16::from_le_bytes(*bytes_at(bytes, at))
 }
 
+#[tactic(auto, using(crate::proofs::Cuts::u32_read))]
 pub fn u32_at(bytes: &[u8], at: usize) -> u32
     requires { at + 4 ≤ length bytes.now }
     ensures { result ≡ u32_le bytes.now at }

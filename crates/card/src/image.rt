@@ -61,6 +61,7 @@ impl<'a> ModuleSource for CardSource<'a> {
 
     ghost proper = { λ s. card_proper s.image.now s.accepted };
 
+    #[tactic(auto, using(crate::proofs::Found::card_modules))]
     fn module_count(&self) -> usize {
         u32_at(self.image, 8) as usize
     }

@@ -22,6 +22,7 @@ fn put(out: &mut [u8], at: usize, bytes: &[u8])
 }
 
 /// Writes the block of each module, the first at byte 16.
+#[tactic(auto, using(crate::proofs::Steps::count_within))]
 fn write_modules<S: ModuleSource>(source: &S, out: &mut [u8])
     requires modules { count_of (S.ModuleSource.meaning source.now) ≤ 4096 }
     requires records { record_total (S.ModuleSource.meaning source.now) ≤ 32768 }
@@ -29,6 +30,7 @@ fn write_modules<S: ModuleSource>(source: &S, out: &mut [u8])
     ensures image { out.new ≡ put_at out.old 16 (concat (encode_modules 0 (S.ModuleSource.meaning source.now).modules)) }
     ensures fits { AllByRecursion AwaitFits (S.ModuleSource.meaning source.now).modules }
 {
+    // a fold would write from inside its closure, which is no plainer than this sum
     let mut first = 0;
     for m in 0..source.module_count() {
         let count = source.record_count(m);
@@ -51,6 +53,7 @@ fn write_records_of<S: ModuleSource>(source: &S, m: usize, out: &mut [u8], at: u
 }
 
 /// Writes the block of each record, past those of the modules.
+#[tactic(auto, using(crate::proofs::Steps::count_within))]
 fn write_records<S: ModuleSource>(source: &S, out: &mut [u8])
     requires modules { count_of (S.ModuleSource.meaning source.now) ≤ 4096 }
     requires records { record_total (S.ModuleSource.meaning source.now) ≤ 32768 }
@@ -59,6 +62,7 @@ fn write_records<S: ModuleSource>(source: &S, out: &mut [u8])
     ensures fits { AllByRecursion SpansFit (S.ModuleSource.meaning source.now).modules }
 {
     let start = 16 + 24 * source.module_count();
+    // as above, a sum beside the writes
     let mut done = 0;
     for m in 0..source.module_count() {
         write_records_of(source, m, out, start + 18 * done);

@@ -15,21 +15,15 @@ use source::{ModuleSource, count_records};
 use std::alloc::{AllocError, Global};
 
 /// A fault as numbers; all are 0 where there is none.
+// C reads the rule and the layer as numbers.
 #[repr(C)]
-#[derive(Clone, Copy)]
+#[derive(Clone, Copy, Default)]
 pub struct TuchovaiFault {
     pub number: u32,
     pub layer: u32,
     pub at: u64,
     pub record: u64,
 }
-
-const NO_FAULT: TuchovaiFault = TuchovaiFault {
-    number: 0,
-    layer: 0,
-    at: 0,
-    record: 0,
-};
 
 impl From<Fault> for TuchovaiFault {
     ghost from_gives = { λ fault numbers. numbers ≡ fault_numbers fault };
@@ -87,7 +81,7 @@ fn told(came_to: Result<(), CallError>, fault: &mut TuchovaiFault) -> u32
 {
     *fault = match came_to {
         Err(CallError::Refused(found)) => TuchovaiFault::from(found),
-        _ => NO_FAULT,
+        _ => TuchovaiFault::default(),
     };
     let status = match came_to {
         Ok(()) => Status::Done,

@@ -26,6 +26,7 @@ impl From<Status> for u32 {
     }
 }
 
+// Functions for the cases of other crates: `From` between two types of others is not ours to write.
 pub fn number_of_wrap(wrap: WrapKind) -> u8
     ensures { result ≡ wrap_number wrap }
 {

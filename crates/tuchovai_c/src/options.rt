@@ -16,6 +16,7 @@ fn format_of(number: u32) -> OutputFormat
 }
 
 /// The format in the two lowest bits, then the four switches; none where a higher bit is set.
+// No `TryFrom`: the number and the options are both types of others.
 pub fn options_of(number: u32) -> Option<LinkOptions>
     ensures { result ≡ options_of number }
 {
