@@ -2,6 +2,7 @@
 --
 --   call_error      why a call is not done where classifying is not
 --   fault_numbers   a fault as numbers
+--   unless_refused   what a call comes to that is done unless it is refused
 --   status_of       the status of what a call came to
 --   told_fault      the fault that it tells: all 0 unless it was refused
 use Rattle.std.specs.Prelude.{Ok, Err, Result}
@@ -23,6 +24,10 @@ call_error (classify.Refused f) = call.Refused f
 abbrev pub fault_numbers : Fault → TuchovaiFault
 fault_numbers f =
     record { number = refusal_number f.refusal; layer = layer_number f.layer; at = f.place.at; «record» = f.place.«record» }
+
+abbrev pub unless_refused : {A : Type 0} → Result A Fault → Result (Unit {0}) CallError
+unless_refused (Ok a) = Ok tt
+unless_refused (Err f) = Err (call.Refused f)
 
 abbrev pub status_of : Result (Unit {0}) CallError → Status
 status_of (Ok u) = status.Done

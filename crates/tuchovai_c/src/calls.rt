@@ -1,7 +1,10 @@
 // The functions that are exported. A slice is a pointer and a length in C; an allocator is nothing there.
-ghost use Rattle.std.specs.Prelude.{◌≡◌};
+ghost use Rattle.std.specs.Prelude.{◌≡◌, length};
+ghost use Rattle.card.specs.Cards.{card_verdict};
+ghost use Rattle.card_writer.specs.Written.{rewrite_answer, rewritten_by};
 ghost use Rattle.tuchovai_c.specs.declared.calls.CallError.TheVariants.{Refused, NoMemory};
-ghost use Rattle.tuchovai_c.specs.Calls.{call_error, fault_numbers, status_of, told_fault};
+ghost use Rattle.tuchovai_c.specs.Calls.{call_error, fault_numbers, status_of, told_fault, unless_refused};
+ghost use Rattle.tuchovai_c.specs.Tables.{table_room};
 ghost use Rattle.tuchovai_c.specs.Numbers.{status_number};
 
 use crate::numbers::{Status, number_of_layer};
@@ -122,13 +125,18 @@ fn write_table(
 
 /// Checks a card: the first fault, or none.
 #[unsafe(no_mangle)]
-pub extern "C" fn tuchovai_check_card(image: &[u8], fault: &mut TuchovaiFault) -> u32 {
+pub extern "C" fn tuchovai_check_card(image: &[u8], fault: &mut TuchovaiFault) -> u32
+    ensures status { result ≡ status_number (status_of (unless_refused (card_verdict image.now))) }
+    ensures fault { fault.new ≡ told_fault (unless_refused (card_verdict image.now)) }
+{
     told(check_card(image).map_err(CallError::Refused), fault)
 }
 
 /// How many bytes are enough for the table of a card; 0 for a card that is refused.
 #[unsafe(no_mangle)]
-pub extern "C" fn tuchovai_table_size(image: &[u8]) -> usize {
+pub extern "C" fn tuchovai_table_size(image: &[u8]) -> usize
+    ensures { result ≡ table_room image.now }
+{
     if check_card(image).is_err() {
         return 0;
     }
@@ -143,7 +151,11 @@ pub extern "C" fn tuchovai_rewrite_card(
     image: &[u8],
     out: &mut [u8],
     fault: &mut TuchovaiFault,
-) -> u32 {
+) -> u32
+    ensures status { result ≡ status_number (status_of (unless_refused (rewrite_answer image.now (length out.old)))) }
+    ensures fault { fault.new ≡ told_fault (unless_refused (rewrite_answer image.now (length out.old))) }
+    ensures image { out.new ≡ rewritten_by (rewrite_answer image.now (length out.old)) image.now out.old }
+{
     let written = rewrite_card(image, out);
     told(written.map(|_| ()).map_err(CallError::Refused), fault)
 }
