@@ -1,6 +1,6 @@
 -- A card and its meaning, there and back.
 use Rattle.std.proofs.Common.{◌≡◌, ℕ, zero, suc, ◌+◌, ◌*◌, ◌<◌, ◌≤◌, Bool, true, false, cond, ltb, List, [], ◌∷◌, ◌++◌, map, length, get_or, take, drop, is_ok, sym, refl, ap, ◌∙◌, subst, ⊎_elim, add-zero, mul-zero, mul-suc, arith}
-use Rattle.std.specs.List.{AllByRecursion}
+use Rattle.std.specs.List.{AllByRecursion, concat}
 use Rattle.std.proofs.lemmas.List.{append-nil, append_assoc, length-append, length-map, length-take, length-take-le, length-drop, take-append-drop, take_at, drop_at, drop-drop, drop_all, drop_more, get_or-take, get_or-drop, get_or_past}
 use Rattle.std.proofs.ByRecursion.{All-append, All-take, All-drop}
 use Rattle.std.proofs.lemmas.Bool.{cases_lt, cond-true}
@@ -9,7 +9,8 @@ use Rattle.source.specs.declared.Module.{Module}
 use Rattle.source.specs.declared.Module.TheVariants.{External, Normal}
 use Rattle.source.specs.declared.NormalModule.{NormalModule}
 use Rattle.source.specs.Meaning.{Meaning, Scanned, no_modules}
-use Rattle.card.specs.Bytes.{u16_le, u32_le, le2, le4, cut, flat}
+use Rattle.std.specs.Simd.{first_chunks}
+use Rattle.card.specs.Bytes.{u16_le, u32_le, le2, le4}
 use Rattle.card.specs.Fields.{is_external, module_of, first_of, count_of, record_of, await_start, await_end, module_fields, record_fields, module_wrong, record_wrong}
 use Rattle.card.specs.Cards.{card_verdict, is_card, card_opened, block, fields_of, head_wrong, block_record, block_scanned, card_meaning, card_size, module_count, module_blocks, record_count, records_start, record_blocks, all_records, encode_head, encode_modules, encode_record, encode}
 use Rattle.card.specs.Accepted.{ModuleBlock, Chained, RecordBlock, Accepted}
@@ -22,32 +23,32 @@ use Rattle.card.proofs.Found.{chained_le, card_modules, taken_length}
 
 -- cutting and joining
 
-flat_cut : (size n : ℕ) (bs : List ℕ) → size * n ≤ length bs → flat (cut size n bs) ++ drop (size * n) bs ≡ bs
+flat_cut : (size n : ℕ) (bs : List ℕ) → size * n ≤ length bs → concat (first_chunks size n bs) ++ drop (size * n) bs ≡ bs
 flat_cut size zero bs h = ap (λ (k : ℕ). drop k bs) (mul-zero size)
 flat_cut size (suc n) bs h =
     let more : size * suc n ≡ size + size * n = omega (arith, mul-suc size n) in
-    ap (λ (k : ℕ). (take size bs ++ flat (cut size n (drop size bs))) ++ drop k bs) more
-    ∙ ap (λ (x : List ℕ). (take size bs ++ flat (cut size n (drop size bs))) ++ x) (sym (drop-drop (size * n) size bs))
-    ∙ append_assoc (take size bs) (flat (cut size n (drop size bs))) (drop (size * n) (drop size bs))
+    ap (λ (k : ℕ). (take size bs ++ concat (first_chunks size n (drop size bs))) ++ drop k bs) more
+    ∙ ap (λ (x : List ℕ). (take size bs ++ concat (first_chunks size n (drop size bs))) ++ x) (sym (drop-drop (size * n) size bs))
+    ∙ append_assoc (take size bs) (concat (first_chunks size n (drop size bs))) (drop (size * n) (drop size bs))
     ∙ ap (λ (x : List ℕ). take size bs ++ x) (flat_cut size n (drop size bs) (rw length-drop (omega arith)))
     ∙ take-append-drop size bs
 
 abbrev Sized : ℕ → List ℕ → Type 0
 Sized size b = length b ≡ size
 
-cut_flat : (size : ℕ) (bs : List (List ℕ)) (rest : List ℕ) → AllByRecursion (Sized size) bs → cut size (length bs) (flat bs ++ rest) ≡ bs
+cut_flat : (size : ℕ) (bs : List (List ℕ)) (rest : List ℕ) → AllByRecursion (Sized size) bs → first_chunks size (length bs) (concat bs ++ rest) ≡ bs
 cut_flat size [] rest h = refl
 cut_flat size (b ∷ bs) rest (here, more) =
-    let split = append_assoc b (flat bs) rest in
-    ap (λ (x : List ℕ). take size x ∷ cut size (length bs) (drop size x)) split
-    ∙ ap (λ (x : List ℕ). x ∷ cut size (length bs) (drop size (b ++ (flat bs ++ rest)))) (take_at b (flat bs ++ rest) size here)
-    ∙ ap (λ (x : List ℕ). b ∷ cut size (length bs) x) (drop_at b (flat bs ++ rest) size here)
+    let split = append_assoc b (concat bs) rest in
+    ap (λ (x : List ℕ). take size x ∷ first_chunks size (length bs) (drop size x)) split
+    ∙ ap (λ (x : List ℕ). x ∷ first_chunks size (length bs) (drop size (b ++ (concat bs ++ rest)))) (take_at b (concat bs ++ rest) size here)
+    ∙ ap (λ (x : List ℕ). b ∷ first_chunks size (length bs) x) (drop_at b (concat bs ++ rest) size here)
     ∙ ap (λ (x : List (List ℕ)). b ∷ x) (cut_flat size bs rest more)
 
-length_flat : (size : ℕ) (bs : List (List ℕ)) → AllByRecursion (Sized size) bs → length (flat bs) ≡ size * length bs
+length_flat : (size : ℕ) (bs : List (List ℕ)) → AllByRecursion (Sized size) bs → length (concat bs) ≡ size * length bs
 length_flat size [] h = sym (mul-zero size)
 length_flat size (b ∷ bs) (here, more) =
-    length-append b (flat bs) ∙ omega (arith, length_flat size bs more, mul-suc size (length bs))
+    length-append b (concat bs) ∙ omega (arith, length_flat size bs more, mul-suc size (length bs))
 
 -- the pieces of a list of bytes
 
@@ -63,7 +64,7 @@ bytes_take n bs h k = ⊎_elim
     (λ (ge : n ≤ k). let past : length (take n bs) ≤ k = simp length-take (omega arith) in rw (get_or_past (take n bs) k 0 past) (omega arith))
     (cases_lt k n)
 
-pieces : (size n : ℕ) (bs : List ℕ) → size * n ≤ length bs → Bytes bs → AllByRecursion (Piece size) (cut size n bs)
+pieces : (size n : ℕ) (bs : List ℕ) → size * n ≤ length bs → Bytes bs → AllByRecursion (Piece size) (first_chunks size n bs)
 pieces size zero bs h b = tt
 pieces size (suc n) bs h b =
     let room : size + size * n ≤ length bs = omega (arith, mul-suc size n) in
@@ -128,12 +129,12 @@ head_back bs bytes long right =
     ∙ ap (block 16 1) (le4_split bs bytes 4 (omega arith))
     ∙ head_encoded 16 1 bs (omega arith) bytes right
 
-blocks_back : (bs : List ℕ) → length bs ≡ card_size bs → flat (module_blocks bs) ++ flat (record_blocks bs) ≡ drop 16 bs
+blocks_back : (bs : List ℕ) → length bs ≡ card_size bs → concat (module_blocks bs) ++ concat (record_blocks bs) ≡ drop 16 bs
 blocks_back bs size =
     let rest = drop (records_start bs) bs in
-    ap (λ (x : List ℕ). flat (module_blocks bs) ++ x)
-    (sym (append-nil (flat (record_blocks bs)))
-    ∙ ap (λ (x : List ℕ). flat (record_blocks bs) ++ x) (sym (drop_all (18 * record_count bs) rest (rw length-drop (omega arith))))
+    ap (λ (x : List ℕ). concat (module_blocks bs) ++ x)
+    (sym (append-nil (concat (record_blocks bs)))
+    ∙ ap (λ (x : List ℕ). concat (record_blocks bs) ++ x) (sym (drop_all (18 * record_count bs) rest (rw length-drop (omega arith))))
     ∙ flat_cut 18 (record_count bs) rest (rw length-drop (omega arith))
     ∙ sym (drop-drop (24 * module_count bs) 16 bs))
     ∙ flat_cut 24 (module_count bs) (drop 16 bs) (rw length-drop (omega arith))
@@ -164,8 +165,8 @@ module _ (bs : List ℕ) (a : Accepted bs) (bytes : Bytes bs) where
 
   pub encoded : encode (card_meaning bs) ≡ bs
   encoded =
-      ap (λ (x : List (List ℕ)). encode_head (card_meaning bs) ++ (flat x ++ flat (map encode_record (all_records (card_meaning bs).modules)))) module_blocks_back
-      ∙ ap (λ (x : List (List ℕ)). encode_head (card_meaning bs) ++ (flat (module_blocks bs) ++ flat x)) record_blocks_back
+      ap (λ (x : List (List ℕ)). encode_head (card_meaning bs) ++ (concat x ++ concat (map encode_record (all_records (card_meaning bs).modules)))) module_blocks_back
+      ∙ ap (λ (x : List (List ℕ)). encode_head (card_meaning bs) ++ (concat (module_blocks bs) ++ concat x)) record_blocks_back
       ∙ ap (λ (x : List ℕ). encode_head (card_meaning bs) ++ x) (blocks_back bs a.size)
       ∙ regrouped (le2 16) (le2 1) (le4 (u32_le bs 4)) (le4 (length (card_meaning bs).modules)) (le4 (length (all_records (card_meaning bs).modules))) (drop 16 bs)
       ∙ ap (λ (n : ℕ). block 16 1 (le4 (u32_le bs 4) ++ (le4 n ++ (le4 (length (all_records (card_meaning bs).modules)) ++ drop 16 bs)))) (card_modules bs)
@@ -239,10 +240,10 @@ length_encode_modules : (first : ℕ) (ss : List Scanned) → length (encode_mod
 length_encode_modules first [] = refl
 length_encode_modules first (s ∷ ss) = ap suc (length_encode_modules (first + length s.records) ss)
 
-pub modules_length : (first : ℕ) (ss : List Scanned) → length (flat (encode_modules first ss)) ≡ 24 * length ss
+pub modules_length : (first : ℕ) (ss : List Scanned) → length (concat (encode_modules first ss)) ≡ 24 * length ss
 modules_length first ss = length_flat 24 (encode_modules first ss) (sized_modules first ss) ∙ ap (λ (n : ℕ). 24 * n) (length_encode_modules first ss)
 
-pub records_length : (rs : List ImportRecord) → length (flat (map encode_record rs)) ≡ 18 * length rs
+pub records_length : (rs : List ImportRecord) → length (concat (map encode_record rs)) ≡ 18 * length rs
 records_length rs = length_flat 18 (map encode_record rs) (sized_records rs) ∙ ap (λ (n : ℕ). 18 * n) (length-map rs encode_record)
 
 pub head_length : (w : Meaning) → length (encode_head w) ≡ 16
@@ -251,8 +252,8 @@ head_length w = refl
 
 pub encode_length : (w : Meaning) → length (encode w) ≡ 16 + 24 * length w.modules + 18 * length (all_records w.modules)
 encode_length w =
-    let ms = flat (encode_modules 0 w.modules) in
-    let rs = flat (map encode_record (all_records w.modules)) in
+    let ms = concat (encode_modules 0 w.modules) in
+    let rs = concat (map encode_record (all_records w.modules)) in
     length-append (encode_head w) (ms ++ rs)
     ∙ omega (arith, head_length w, length-append ms rs, modules_length 0 w.modules, records_length (all_records w.modules))
 
@@ -350,27 +351,27 @@ module _ (w : Meaning) (fits : Writable w) where
   unfolding u16_le le2
   written_head = refl
 
-  after_head : drop 16 (encode w) ≡ flat module_part ++ flat record_part
+  after_head : drop 16 (encode w) ≡ concat module_part ++ concat record_part
   unfolding le2 le4
   after_head = refl
 
   written_modules : module_blocks (encode w) ≡ module_part
   written_modules =
-      ap (λ (n : ℕ). cut 24 n (drop 16 (encode w))) (written_count ∙ sym (length_encode_modules 0 w.modules))
-      ∙ ap (cut 24 (length module_part)) after_head
-      ∙ cut_flat 24 module_part (flat record_part) (sized_modules 0 w.modules)
+      ap (λ (n : ℕ). first_chunks 24 n (drop 16 (encode w))) (written_count ∙ sym (length_encode_modules 0 w.modules))
+      ∙ ap (first_chunks 24 (length module_part)) after_head
+      ∙ cut_flat 24 module_part (concat record_part) (sized_modules 0 w.modules)
 
-  after_modules : drop (records_start (encode w)) (encode w) ≡ flat record_part ++ []
+  after_modules : drop (records_start (encode w)) (encode w) ≡ concat record_part ++ []
   after_modules =
       sym (drop-drop (24 * module_count (encode w)) 16 (encode w))
       ∙ ap (drop (24 * module_count (encode w))) after_head
-      ∙ drop_at (flat module_part) (flat record_part) (24 * module_count (encode w)) (omega (arith, modules_length 0 w.modules, written_count))
-      ∙ sym (append-nil (flat record_part))
+      ∙ drop_at (concat module_part) (concat record_part) (24 * module_count (encode w)) (omega (arith, modules_length 0 w.modules, written_count))
+      ∙ sym (append-nil (concat record_part))
 
   written_record_blocks : record_blocks (encode w) ≡ record_part
   written_record_blocks =
-      ap (λ (n : ℕ). cut 18 n (drop (records_start (encode w)) (encode w))) (written_records ∙ sym (length-map every encode_record))
-      ∙ ap (cut 18 (length record_part)) after_modules
+      ap (λ (n : ℕ). first_chunks 18 n (drop (records_start (encode w)) (encode w))) (written_records ∙ sym (length-map every encode_record))
+      ∙ ap (first_chunks 18 (length record_part)) after_modules
       ∙ cut_flat 18 record_part [] (sized_records every)
 
   pub written_accepted : Accepted (encode w)

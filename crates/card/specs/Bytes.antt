@@ -2,9 +2,7 @@
 --
 --   u16_le, u32_le   the number that the two or four bytes from an offset on stand for
 --   le2, le4         the two or four bytes of a number
---   cut              a list cut into so many pieces of one size
---   flat             pieces joined again
-use Rattle.std.specs.Prelude.{ℕ, zero, suc, ◌+◌, ◌*◌, ◌/◌, ◌%◌, List, [], ◌∷◌, ◌++◌, take, drop, slice_index}
+use Rattle.std.specs.Prelude.{ℕ, ◌+◌, ◌*◌, ◌/◌, ◌%◌, List, [], ◌∷◌, slice_index}
 
 unfoldable pub u16_le : List ℕ → ℕ → ℕ
 u16_le bs at = slice_index bs at + slice_index bs (at + 1) * 256
@@ -17,11 +15,3 @@ le2 n = n % 256 ∷ n / 256 % 256 ∷ []
 
 unfoldable pub le4 : ℕ → List ℕ
 le4 n = n % 256 ∷ n / 256 % 256 ∷ n / 65536 % 256 ∷ n / 16777216 % 256 ∷ []
-
-abbrev pub cut : ℕ → ℕ → List ℕ → List (List ℕ)
-cut size zero bs = []
-cut size (suc n) bs = take size bs ∷ cut size n (drop size bs)
-
-abbrev pub flat : List (List ℕ) → List ℕ
-flat [] = []
-flat (p ∷ ps) = p ++ flat ps

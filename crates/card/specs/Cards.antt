@@ -25,7 +25,9 @@ use Rattle.faults.specs.Faults.{Verdict, fault, refuse_if, and_then}
 use Rattle.source.specs.declared.ImportRecord.{ImportRecord}
 use Rattle.source.specs.Meaning.{Meaning, Scanned, no_modules}
 use Rattle.source.specs.Numbers.{module_limit, record_limit}
-use Rattle.card.specs.Bytes.{u16_le, u32_le, le2, le4, cut, flat}
+use Rattle.std.specs.List.{concat}
+use Rattle.std.specs.Simd.{first_chunks}
+use Rattle.card.specs.Bytes.{u16_le, u32_le, le2, le4}
 use Rattle.card.specs.Fields.{module_of, first_of, count_of, record_of, module_fields, record_fields, module_wrong, record_wrong}
 
 abbrev pub module_count : List ℕ → ℕ
@@ -41,10 +43,10 @@ abbrev pub card_size : List ℕ → ℕ
 card_size bs = records_start bs + 18 * record_count bs
 
 abbrev pub module_blocks : List ℕ → List (List ℕ)
-module_blocks bs = cut 24 (module_count bs) (drop 16 bs)
+module_blocks bs = first_chunks 24 (module_count bs) (drop 16 bs)
 
 abbrev pub record_blocks : List ℕ → List (List ℕ)
-record_blocks bs = cut 18 (record_count bs) (drop (records_start bs) bs)
+record_blocks bs = first_chunks 18 (record_count bs) (drop (records_start bs) bs)
 
 abbrev pub fields_of : List ℕ → List ℕ
 fields_of b = drop 4 b
@@ -139,4 +141,4 @@ abbrev pub encode_record : ImportRecord → List ℕ
 encode_record r = block 18 3 (record_fields r)
 
 abbrev pub encode : Meaning → List ℕ
-encode w = encode_head w ++ (flat (encode_modules 0 w.modules) ++ flat (map encode_record (all_records w.modules)))
+encode w = encode_head w ++ (concat (encode_modules 0 w.modules) ++ concat (map encode_record (all_records w.modules)))

@@ -1,36 +1,30 @@
 // The check of an image: its first fault, or accepted.
-ghost use Rattle.std.specs.Prelude.{◌≡◌, ◌+◌, ◌*◌, ◌<◌, ◌≤◌, true, false, length, drop, MatchOption};
-ghost use Rattle.card.specs.Cards.{card_fault, head_wrong, head_verdict, module_count, module_end, modules_end, module_blocks, records_start, record_verdict, records_verdict, record_blocks, card_size, card_verdict};
+ghost use Rattle.std.specs.Prelude.{◌≡◌, ◌+◌, ◌*◌, ◌^◌, ◌<◌, ◌≤◌, true, false, length, Ok, MatchOption};
+ghost use Rattle.card.specs.Cards.{card_fault, fields_of, head_wrong, head_verdict, module_count, module_end, modules_end, module_blocks, record_count, record_verdict, records_verdict, record_blocks, blocks_verdict, card_size, card_verdict};
 ghost use Rattle.card.specs.Writable.{Exact};
 
-use crate::bytes::u32_at;
+use crate::bytes::{bytes_at, u16_at, u32_at};
 use crate::fields::{module_wrong, record_wrong};
-use faults::{Fault, Layer, Place, Refusal};
+use faults::{Fault, Layer, Refusal};
 use source::{MODULE_LIMIT, RECORD_LIMIT};
 
 /// A fault that the card's layer finds at a byte or at a module.
 pub fn card_fault(refusal: Refusal, at: usize) -> Fault
     ensures { result ≡ card_fault refusal at }
 {
-    Fault {
-        refusal,
-        layer: Layer::Card,
-        place: Place { at, record: 0 },
-    }
+    refusal.found_by(Layer::Card, at, 0)
 }
 
-/// What follows a block's length and kind, where these are as they should be.
-fn fields_of(block: &[u8], size: u16, kind: u16) -> Option<&[u8]>
-    requires { 4 ≤ length block.now }
-    ensures { MatchOption result (head_wrong size kind block.now ≡ true) (λ f. (head_wrong size kind block.now ≡ false) × (f.now ≡ drop 4 block.now)) }
+/// What follows the length and kind of a block of `N` bytes more, where these are as they should be.
+fn fields_of<const N: usize>(block: &[u8], kind: u16) -> Option<&[u8; N]>
+    requires { 4 + N ≤ length block.now }
+    ensures { MatchOption result (head_wrong (N + 4) kind block.now ≡ true) (λ f. (head_wrong (N + 4) kind block.now ≡ false) × (length block.now ≡ N + 4 → f.now ≡ fields_of block.now)) }
 {
-    let [a, b, c, d, fields @ ..] = block else {
-        return None;
-    };
-    if u16::from_le_bytes([*a, *b]) != size || u16::from_le_bytes([*c, *d]) != kind {
-        return None;
+    if u16_at(block, 0) as usize == N + 4 && u16_at(block, 2) == kind {
+        Some(bytes_at(block, 4))
+    } else {
+        None
     }
-    Some(fields)
 }
 
 /// The head block, and that the image is as long as it says.
@@ -40,9 +34,7 @@ fn check_head(image: &[u8]) -> Result<(), Fault>
     if image.len() < 16 {
         return Err(card_fault(Refusal::WrongLength, image.len()));
     }
-    let Some(_) = fields_of(image, 16, 1) else {
-        return Err(card_fault(Refusal::WrongBlockHead, 0));
-    };
+    fields_of::<12>(image, 1).ok_or(card_fault(Refusal::WrongBlockHead, 0))?;
     let modules = u32_at(image, 8) as usize;
     if modules > MODULE_LIMIT {
         return Err(card_fault(Refusal::TooManyModules, 0));
@@ -57,71 +49,77 @@ fn check_head(image: &[u8]) -> Result<(), Fault>
     Ok(())
 }
 
+/// The blocks of the modules and those of the records.
+fn blocks_of(image: &[u8]) -> (&[[u8; 24]], &[[u8; 18]])
+    requires { length image.now ≡ card_size image.now }
+    ensures modules { result.0.now ≡ module_blocks image.now }
+    ensures modules_len { length result.0.now ≡ module_count image.now }
+    ensures records { result.1.now ≡ record_blocks image.now }
+    ensures records_len { length result.1.now ≡ record_count image.now }
+{
+    let (modules, records) = image[16..].split_at(24 * u32_at(image, 8) as usize);
+    (modules.as_chunks().0, records.as_chunks().0)
+}
+
 /// Where the records of the module `m` end, which must begin at `next`.
-fn check_module(block: &[u8], m: usize, next: usize) -> Result<usize, Fault>
-    requires { (length block.now ≡ 24) × (m < 4096) }
+fn check_module(block: &[u8; 24], m: usize, next: usize) -> Result<usize, Fault>
+    requires { m < 4096 }
     ensures { result ≡ module_end m next block.now }
 {
-    let Some(fields) = fields_of(block, 24, 2) else {
-        return Err(card_fault(Refusal::WrongBlockHead, 16 + 24 * m));
-    };
+    let at = 16 + 24 * m;
+    let fields = fields_of(block, 2).ok_or(card_fault(Refusal::WrongBlockHead, at))?;
     if module_wrong(fields) {
-        return Err(card_fault(Refusal::FieldOutOfValues, 16 + 24 * m));
+        return Err(card_fault(Refusal::FieldOutOfValues, at));
     }
-    let first = u32_at(fields, 12);
-    if first as usize != next {
+    if u32_at(fields, 12) as usize != next {
         return Err(card_fault(Refusal::WrongFirstRecord, m));
     }
-    Ok(first as usize + u32_at(fields, 16) as usize)
+    Ok(next + u32_at(fields, 16) as usize)
 }
 
 /// Where the records of the last module end.
-fn check_modules(image: &[u8]) -> Result<usize, Fault>
-    requires { (length image.now ≡ card_size image.now) × (module_count image.now ≤ 4096) }
-    ensures { result ≡ modules_end 0 0 (module_blocks image.now) }
+fn check_modules(blocks: &[[u8; 24]]) -> Result<usize, Fault>
+    requires { length blocks.now ≤ 4096 }
+    ensures { result ≡ modules_end 0 0 blocks.now }
 {
     let mut next = 0;
-    for m in 0..u32_at(image, 8) as usize {
-        let at = 16 + 24 * m;
-        next = check_module(&image[at..at + 24], m, next)?;
+    for (m, block) in blocks.iter().enumerate() {
+        next = check_module(block, m, next)?;
     }
     Ok(next)
 }
 
-fn check_record(block: &[u8], at: usize) -> Result<(), Fault>
-    requires { length block.now ≡ 18 }
+fn check_record(block: &[u8; 18], at: usize) -> Result<(), Fault>
     ensures { result ≡ record_verdict at block.now }
 {
-    let Some(fields) = fields_of(block, 18, 3) else {
-        return Err(card_fault(Refusal::WrongBlockHead, at));
-    };
+    let fields = fields_of(block, 3).ok_or(card_fault(Refusal::WrongBlockHead, at))?;
     if record_wrong(fields) {
         return Err(card_fault(Refusal::FieldOutOfValues, at));
     }
     Ok(())
 }
 
-fn check_records(image: &[u8]) -> Result<(), Fault>
-    requires { length image.now ≡ card_size image.now }
-    ensures { result ≡ records_verdict (records_start image.now) 0 (record_blocks image.now) }
+/// The blocks of the records, the first at `start`.
+fn check_records(blocks: &[[u8; 18]], start: usize) -> Result<(), Fault>
+    requires { start + 18 * length blocks.now < 2 ^ 64 }
+    ensures { result ≡ records_verdict start 0 blocks.now }
 {
-    let start = 16 + 24 * u32_at(image, 8) as usize;
-    for r in 0..u32_at(image, 12) as usize {
-        let at = start + 18 * r;
-        check_record(&image[at..at + 18], at)?;
+    for (r, block) in blocks.iter().enumerate() {
+        check_record(block, start + 18 * r)?;
     }
     Ok(())
 }
 
-/// The head, then each block in turn, and last the sum of the records.
-fn check_all(image: &[u8]) -> Result<(), Fault>
-    ensures { result ≡ card_verdict image.now }
+/// The blocks of the modules, those of the records, and last the sum of the records.
+fn check_blocks(image: &[u8]) -> Result<(), Fault>
+    requires { head_verdict image.now ≡ Ok tt }
+    ensures { result ≡ blocks_verdict image.now }
 {
-    check_head(image)?;
-    let end = check_modules(image)?;
-    check_records(image)?;
-    if end != u32_at(image, 12) as usize {
-        return Err(card_fault(Refusal::WrongFirstRecord, u32_at(image, 8) as usize));
+    let (modules, records) = blocks_of(image);
+    let end = check_modules(modules)?;
+    check_records(records, 16 + 24 * modules.len())?;
+    if end != records.len() {
+        return Err(card_fault(Refusal::WrongFirstRecord, modules.len()));
     }
     Ok(())
 }
@@ -132,5 +130,6 @@ pub fn check_card(image: &[u8]) -> Result<(), Fault>
     ensures verdict { result ≡ card_verdict image.now }
     ensures exact { Exact image.now result }
 {
-    check_all(image)
+    check_head(image)?;
+    check_blocks(image)
 }

@@ -1,11 +1,11 @@
 // A source over a lent image, which it reads in place.
-ghost use Rattle.std.specs.Prelude.{◌≡◌, ◌+◌, ◌≤◌, true, length, take, drop, MatchOption};
+ghost use Rattle.std.specs.Prelude.{◌≡◌, true, length, MatchOption};
 ghost use Rattle.source.specs.Meaning.{scanned_at, past_modules, record_at, past_records};
 ghost use Rattle.card.specs.Cards.{card_size, is_card, card_meaning, card_opened};
 ghost use Rattle.card.specs.Found.{FoundModule, FoundRecord};
 ghost use Rattle.card.specs.Passed.{card_proper};
 
-use crate::bytes::u32_at;
+use crate::bytes::{bytes_at, u32_at};
 use crate::check::check_card;
 use crate::fields::{import_of, module_of, record_of, target_of};
 use source::{ImportKind, ImportRecord, Module, ModuleSource, no_record};
@@ -32,27 +32,18 @@ impl<'a> CardSource<'a> {
         CardSource { image: &NO_MODULES }
     }
 
-    /// What follows the length and kind of the block of `size` bytes at `at`.
-    fn fields(&self, at: usize, size: usize) -> &[u8]
-        requires { (4 ≤ size) × (at + size ≤ length self.now.image.now) }
-        ensures bytes { result.now ≡ drop 4 (take size (drop at self.now.image.now)) }
-        ensures sized { length result.now + 4 ≡ size }
-    {
-        &self.image[at + 4..at + size]
-    }
-
     /// The fields of the module's block, if there is one.
-    fn module_fields(&self, m: usize) -> Option<&[u8]>
+    fn module_fields(&self, m: usize) -> Option<&[u8; 20]>
         ensures { MatchOption result (scanned_at (card_meaning self.now.image.now) m ≡ past_modules) (λ f. FoundModule self.now.image.now m f.now) }
     {
         if m >= u32_at(self.image, 8) as usize {
             return None;
         }
-        Some(self.fields(16 + 24 * m, 24))
+        Some(bytes_at(self.image, 16 + 24 * m + 4))
     }
 
     /// The fields of the record's block, if there is one.
-    fn record_fields(&self, m: usize, k: usize) -> Option<&[u8]>
+    fn record_fields(&self, m: usize, k: usize) -> Option<&[u8; 14]>
         ensures { MatchOption result (record_at (card_meaning self.now.image.now) m k ≡ past_records) (λ f. FoundRecord self.now.image.now m k f.now) }
     {
         let module = self.module_fields(m)?;
@@ -60,7 +51,8 @@ impl<'a> CardSource<'a> {
             return None;
         }
         let r = u32_at(module, 12) as usize + k;
-        Some(self.fields(16 + 24 * u32_at(self.image, 8) as usize + 18 * r, 18))
+        let start = 16 + 24 * u32_at(self.image, 8) as usize;
+        Some(bytes_at(self.image, start + 18 * r + 4))
     }
 }
 
@@ -69,6 +61,7 @@ impl<'a> ModuleSource for CardSource<'a> {
 
     ghost proper = { λ s. card_proper s.image.now s.accepted };
 
+    #[tactic(auto, using(crate::proofs::Found::card_modules))]
     fn module_count(&self) -> usize {
         u32_at(self.image, 8) as usize
     }
@@ -78,31 +71,23 @@ impl<'a> ModuleSource for CardSource<'a> {
     }
 
     fn module(&self, m: usize) -> Module {
-        let Some(fields) = self.module_fields(m) else {
-            return Module::External;
-        };
-        module_of(fields)
+        self.module_fields(m).map_or(Module::External, module_of)
     }
 
     fn record_count(&self, m: usize) -> usize {
-        let Some(fields) = self.module_fields(m) else {
-            return 0;
-        };
-        u32_at(fields, 16) as usize
+        self.module_fields(m)
+            .map_or(0, |fields| u32_at(fields, 16) as usize)
     }
 
     fn record(&self, m: usize, k: usize) -> ImportRecord {
-        let Some(fields) = self.record_fields(m, k) else {
-            return no_record();
-        };
-        record_of(fields)
+        self.record_fields(m, k).map_or_else(no_record, record_of)
     }
 
     /// Reads the kind and the target alone.
     fn look(&self, m: usize, k: usize) -> (ImportKind, Option<u32>) {
-        let Some(fields) = self.record_fields(m, k) else {
-            return (ImportKind::HotAccept, None);
-        };
-        (import_of(fields[0]), target_of(u32_at(fields, 2)))
+        self.record_fields(m, k)
+            .map_or((ImportKind::HotAccept, None), |fields| {
+                (import_of(fields[0]), target_of(u32_at(fields, 2)))
+            })
     }
 }

@@ -21,15 +21,11 @@ mod tests {
     use super::SMALL;
     use card::{CardSource, check_card};
     use card_writer::write_card;
-    use faults::{Fault, Layer, Place, Refusal};
+    use faults::{Fault, Layer, Refusal};
     use source::{ImportKind, Module, ModuleSource, Span};
 
     fn refused(refusal: Refusal, at: usize) -> Result<(), Fault> {
-        Err(Fault {
-            refusal,
-            layer: Layer::Card,
-            place: Place { at, record: 0 },
-        })
+        Err(refusal.found_by(Layer::Card, at, 0))
     }
 
     // What the check answers once the byte at `at` is `byte`.
@@ -106,20 +102,13 @@ mod tests {
 
     // Whether two sources give the same answers.
     fn alike(a: &CardSource, b: &CardSource) -> bool {
-        if a.runtime() != b.runtime() || a.module_count() != b.module_count() {
-            return false;
-        }
-        for m in 0..a.module_count() {
-            if a.module(m) != b.module(m) || a.record_count(m) != b.record_count(m) {
-                return false;
-            }
-            for k in 0..a.record_count(m) {
-                if a.record(m, k) != b.record(m, k) {
-                    return false;
-                }
-            }
-        }
-        true
+        a.runtime() == b.runtime()
+            && a.module_count() == b.module_count()
+            && (0..a.module_count()).all(|m| {
+                a.module(m) == b.module(m)
+                    && a.record_count(m) == b.record_count(m)
+                    && (0..a.record_count(m)).all(|k| a.record(m, k) == b.record(m, k))
+            })
     }
 
     #[test]
@@ -143,11 +132,7 @@ mod tests {
         let short = write_card(&source, &mut out[0..123]);
         assert_eq!(rt;
             short.err(),
-            Some(Fault {
-                refusal: Refusal::WrongLength,
-                layer: Layer::Card,
-                place: Place { at: 123, record: 0 },
-            })
+            Some(Refusal::WrongLength.found_by(Layer::Card, 123, 0))
         );
         assert_eq!(rt; out[0], 9);
         assert_eq!(rt; write_card(&source, &mut out).ok(), Some(124));

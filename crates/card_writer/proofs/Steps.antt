@@ -5,11 +5,12 @@ use Rattle.std.proofs.lemmas.List.Sums.{sum_by-cons}
 use Rattle.source.specs.declared.ImportRecord.{ImportRecord}
 use Rattle.source.specs.declared.Module.{Module}
 use Rattle.source.specs.Meaning.{Scanned, past_modules, past_records}
-use Rattle.card.specs.Bytes.{flat}
+use Rattle.std.specs.List.{concat}
 use Rattle.card.specs.Fields.{module_fields}
 use Rattle.card.specs.Cards.{block, all_records, encode_modules, encode_record}
 use Rattle.card.proofs.Whole.{modules_length, records_length}
 use Rattle.card_writer.specs.Written.{put_at}
+use Rattle.card_writer.proofs.Spelled.{concat-append, concat-push}
 
 -- the slice
 
@@ -41,10 +42,6 @@ put_step old held at here p b h e at-end =
 
 -- the lists of blocks
 
-flat_push : (bs : List (List ℕ)) (b : List ℕ) → flat (bs ++ b ∷ []) ≡ flat bs ++ b
-flat_push [] b = append-nil b
-flat_push (x ∷ bs) b = ap (λ (y : List ℕ). x ++ y) (flat_push bs b) ∙ sym (append_assoc x (flat bs) b)
-
 all_records_push : (ss : List Scanned) (s : Scanned) → all_records (ss ++ s ∷ []) ≡ all_records ss ++ s.records
 all_records_push [] s = append-nil s.records
 all_records_push (x ∷ ss) s = ap (λ (y : List ImportRecord). x.records ++ y) (all_records_push ss s) ∙ sym (append_assoc x.records (all_records ss) s.records)
@@ -67,13 +64,13 @@ module _ (ss : List Scanned) (m : ℕ) (h : m < length ss) where
   pub count_more : length (all_records (take (m + 1) ss)) ≡ length (all_records (take m ss)) + length here.records
   count_more = ap length all_records_more ∙ length-append (all_records (take m ss)) here.records
 
-  pub modules_more : flat (encode_modules 0 (take (m + 1) ss)) ≡ flat (encode_modules 0 (take m ss)) ++ block 24 2 (module_fields here.described (length (all_records (take m ss))) (length here.records))
+  pub modules_more : concat (encode_modules 0 (take (m + 1) ss)) ≡ concat (encode_modules 0 (take m ss)) ++ block 24 2 (module_fields here.described (length (all_records (take m ss))) (length here.records))
   modules_more =
       let sum : 0 + length (all_records (take m ss)) ≡ length (all_records (take m ss)) = omega arith in
-      ap (λ (x : List Scanned). flat (encode_modules 0 x)) (take_more ss m past_modules h)
-      ∙ ap flat (encode_modules_push 0 (take m ss) here)
-      ∙ flat_push (encode_modules 0 (take m ss)) (block 24 2 (module_fields here.described (0 + length (all_records (take m ss))) (length here.records)))
-      ∙ ap (λ (n : ℕ). flat (encode_modules 0 (take m ss)) ++ block 24 2 (module_fields here.described n (length here.records))) sum
+      ap (λ (x : List Scanned). concat (encode_modules 0 x)) (take_more ss m past_modules h)
+      ∙ ap concat (encode_modules_push 0 (take m ss) here)
+      ∙ concat-push (encode_modules 0 (take m ss)) (block 24 2 (module_fields here.described (0 + length (all_records (take m ss))) (length here.records)))
+      ∙ ap (λ (n : ℕ). concat (encode_modules 0 (take m ss)) ++ block 24 2 (module_fields here.described n (length here.records))) sum
 
 -- the records of the first modules are some of all
 count_le : (m : ℕ) (ss : List Scanned) → length (all_records (take m ss)) ≤ length (all_records ss)
@@ -89,23 +86,23 @@ counted (s ∷ ss) = sum_by-cons (λ (s' : Scanned). length s'.records) s ss ∙
 pub count_within : (ss : List Scanned) (m : ℕ) → m < length ss → length (all_records (take m ss)) + length (get_or ss m past_modules).records ≤ sum_by (λ (s : Scanned). length s.records) ss
 count_within ss m h = omega (arith, count_more ss m h, count_le (m + 1) ss, counted ss)
 
-pub records_more : (rs : List ImportRecord) (k : ℕ) → k < length rs → flat (map encode_record (take (k + 1) rs)) ≡ flat (map encode_record (take k rs)) ++ encode_record (get_or rs k past_records)
+pub records_more : (rs : List ImportRecord) (k : ℕ) → k < length rs → concat (map encode_record (take (k + 1) rs)) ≡ concat (map encode_record (take k rs)) ++ encode_record (get_or rs k past_records)
 records_more rs k h =
-    ap (λ (x : List ImportRecord). flat (map encode_record x)) (take_more rs k past_records h)
-    ∙ ap flat (map_push encode_record (take k rs) (get_or rs k past_records))
-    ∙ flat_push (map encode_record (take k rs)) (encode_record (get_or rs k past_records))
+    ap (λ (x : List ImportRecord). concat (map encode_record x)) (take_more rs k past_records h)
+    ∙ ap concat (map_push encode_record (take k rs) (get_or rs k past_records))
+    ∙ concat-push (map encode_record (take k rs)) (encode_record (get_or rs k past_records))
 
 -- one turn of each loop
 
-module_step : (ss : List Scanned) (m : ℕ) (old held b : List ℕ) → m < length ss → 16 ≤ length old → held ≡ put_at old 16 (flat (encode_modules 0 (take m ss))) → b ≡ block 24 2 (module_fields (get_or ss m past_modules).described (length (all_records (take m ss))) (length (get_or ss m past_modules).records)) → put_at held (16 + 24 * m) b ≡ put_at old 16 (flat (encode_modules 0 (take (m + 1) ss)))
+module_step : (ss : List Scanned) (m : ℕ) (old held b : List ℕ) → m < length ss → 16 ≤ length old → held ≡ put_at old 16 (concat (encode_modules 0 (take m ss))) → b ≡ block 24 2 (module_fields (get_or ss m past_modules).described (length (all_records (take m ss))) (length (get_or ss m past_modules).records)) → put_at held (16 + 24 * m) b ≡ put_at old 16 (concat (encode_modules 0 (take (m + 1) ss)))
 module_step ss m old held b lt long e is =
-    let p = flat (encode_modules 0 (take m ss)) in
+    let p = concat (encode_modules 0 (take m ss)) in
     let end : 16 + length p ≡ 16 + 24 * m = omega (arith, modules_length 0 (take m ss), length-take-le m ss (omega arith)) in
     put_step old held 16 (16 + 24 * m) p b long e end
     ∙ ap (put_at old 16) (ap (λ (x : List ℕ). p ++ x) is ∙ sym (modules_more ss m lt))
 
 -- the same where the values come from calls
-pub module_turn : (ss : List Scanned) (m : ℕ) (old held new b : List ℕ) (d : Module) (first count : ℕ) → m < length ss → 16 ≤ length old → held ≡ put_at old 16 (flat (encode_modules 0 (take m ss))) → first ≡ length (all_records (take m ss)) → count ≡ length (get_or ss m past_modules).records → d ≡ (get_or ss m past_modules).described → b ≡ block 24 2 (module_fields d first count) → new ≡ put_at held (16 + 24 * m) b → new ≡ put_at old 16 (flat (encode_modules 0 (take (m + 1) ss)))
+pub module_turn : (ss : List Scanned) (m : ℕ) (old held new b : List ℕ) (d : Module) (first count : ℕ) → m < length ss → 16 ≤ length old → held ≡ put_at old 16 (concat (encode_modules 0 (take m ss))) → first ≡ length (all_records (take m ss)) → count ≡ length (get_or ss m past_modules).records → d ≡ (get_or ss m past_modules).described → b ≡ block 24 2 (module_fields d first count) → new ≡ put_at held (16 + 24 * m) b → new ≡ put_at old 16 (concat (encode_modules 0 (take (m + 1) ss)))
 module_turn ss m old held new b d first count lt long e ef ec ed eb en =
     en ∙ module_step ss m old held b lt long e
     (eb
@@ -113,25 +110,21 @@ module_turn ss m old held new b d first count lt long e ef ec ed eb en =
     ∙ ap (λ (n : ℕ). block 24 2 (module_fields (get_or ss m past_modules).described n count)) ef
     ∙ ap (λ (n : ℕ). block 24 2 (module_fields (get_or ss m past_modules).described (length (all_records (take m ss))) n)) ec)
 
-pub record_turn : (rs : List ImportRecord) (k at : ℕ) (old held new b : List ℕ) (r : ImportRecord) → k < length rs → at ≤ length old → held ≡ put_at old at (flat (map encode_record (take k rs))) → r ≡ get_or rs k past_records → b ≡ encode_record r → new ≡ put_at held (at + 18 * k) b → new ≡ put_at old at (flat (map encode_record (take (k + 1) rs)))
+pub record_turn : (rs : List ImportRecord) (k at : ℕ) (old held new b : List ℕ) (r : ImportRecord) → k < length rs → at ≤ length old → held ≡ put_at old at (concat (map encode_record (take k rs))) → r ≡ get_or rs k past_records → b ≡ encode_record r → new ≡ put_at held (at + 18 * k) b → new ≡ put_at old at (concat (map encode_record (take (k + 1) rs)))
 record_turn rs k at old held new b r lt long e er eb en =
-    let p = flat (map encode_record (take k rs)) in
+    let p = concat (map encode_record (take k rs)) in
     let end : at + length p ≡ at + 18 * k = omega (arith, records_length (take k rs), length-take-le k rs (omega arith)) in
     en ∙ put_step old held at (at + 18 * k) p b long e end
     ∙ ap (put_at old at) (ap (λ (x : List ℕ). p ++ x) (eb ∙ ap encode_record er) ∙ sym (records_more rs k lt))
 
-flat_append : (a b : List (List ℕ)) → flat (a ++ b) ≡ flat a ++ flat b
-flat_append [] b = refl
-flat_append (x ∷ a) b = ap (λ (y : List ℕ). x ++ y) (flat_append a b) ∙ sym (append_assoc x (flat a) (flat b))
-
-pub records_turn : (ss : List Scanned) (m start done : ℕ) (old held new : List ℕ) → m < length ss → start ≤ length old → held ≡ put_at old start (flat (map encode_record (all_records (take m ss)))) → done ≡ length (all_records (take m ss)) → new ≡ put_at held (start + 18 * done) (flat (map encode_record (get_or ss m past_modules).records)) → new ≡ put_at old start (flat (map encode_record (all_records (take (m + 1) ss))))
+pub records_turn : (ss : List Scanned) (m start done : ℕ) (old held new : List ℕ) → m < length ss → start ≤ length old → held ≡ put_at old start (concat (map encode_record (all_records (take m ss)))) → done ≡ length (all_records (take m ss)) → new ≡ put_at held (start + 18 * done) (concat (map encode_record (get_or ss m past_modules).records)) → new ≡ put_at old start (concat (map encode_record (all_records (take (m + 1) ss))))
 records_turn ss m start done old held new lt long e ed en =
     let before = all_records (take m ss) in
     let its = (get_or ss m past_modules).records in
-    let p = flat (map encode_record before) in
+    let p = concat (map encode_record before) in
     let end : start + length p ≡ start + 18 * done = omega (arith, records_length before) in
-    en ∙ put_step old held start (start + 18 * done) p (flat (map encode_record its)) long e end
+    en ∙ put_step old held start (start + 18 * done) p (concat (map encode_record its)) long e end
     ∙ ap (put_at old start)
-    (sym (flat_append (map encode_record before) (map encode_record its))
-    ∙ ap flat (sym (map-append encode_record before its))
-    ∙ ap (λ (x : List ImportRecord). flat (map encode_record x)) (sym (all_records_more ss m lt)))
+    (sym (concat-append (map encode_record before) (map encode_record its))
+    ∙ ap concat (sym (map-append encode_record before its))
+    ∙ ap (λ (x : List ImportRecord). concat (map encode_record x)) (sym (all_records_more ss m lt)))

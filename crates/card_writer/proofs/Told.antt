@@ -1,6 +1,6 @@
 -- What the writer answers, what it leaves, and that this opens as the source again.
 use Rattle.std.proofs.Common.{◌≡◌, ℕ, ◌+◌, ◌*◌, ◌<◌, ◌≤◌, Bool, true, false, ltb, List, ◌++◌, map, length, get_or, take, drop, is_ok, Ok, Err, Result, sym, refl, ap, ◌∙◌, arith}
-use Rattle.std.specs.List.{AllByRecursion}
+use Rattle.std.specs.List.{AllByRecursion, concat}
 use Rattle.std.proofs.lemmas.List.{append_assoc, length-append, take_at}
 use Rattle.std.proofs.ByRecursion.{All-get_or, All-from_get_or}
 use Rattle.std.proofs.lemmas.Bool.{le-ltb, lt-ltb, cond-true}
@@ -8,7 +8,6 @@ use Rattle.faults.specs.declared.Fault.{Fault}
 use Rattle.faults.specs.declared.Refusal.TheVariants.{TooManyModules, TooManyRecords, WrongLength}
 use Rattle.faults.specs.Faults.{Verdict, refuse_if, and_then}
 use Rattle.source.specs.Meaning.{Meaning, Proper, count_of, record_total, past_modules, past_records, no_modules}
-use Rattle.card.specs.Bytes.{flat}
 use Rattle.card.specs.Cards.{card_fault, go_on, card_verdict, is_card, card_meaning, card_opened, all_records, encode_head, encode_modules, encode_record, encode}
 use Rattle.card.specs.Writable.{Fits32, RecordFits, ModuleFits, Writable, Exact}
 use Rattle.card.proofs.Whole.{head_length, modules_length, opened}
@@ -30,11 +29,11 @@ module _ (w : Meaning) (room : ℕ) (few : count_of w ≤ 4096) (records : recor
   long_enough size e h = ap Ok e ∙ sym (after_limits false (le-ltb room (length (encode w)) (omega arith)))
 
 -- the head, the modules and the records, one after another
-pub whole_written : (w : Meaning) (old one two three head : List ℕ) (size : ℕ) → size ≡ length (encode w) → head ≡ encode_head w → one ≡ put_at old 0 head → two ≡ put_at one 16 (flat (encode_modules 0 w.modules)) → three ≡ put_at two (16 + 24 * count_of w) (flat (map encode_record (all_records w.modules))) → three ≡ encode w ++ drop size old
+pub whole_written : (w : Meaning) (old one two three head : List ℕ) (size : ℕ) → size ≡ length (encode w) → head ≡ encode_head w → one ≡ put_at old 0 head → two ≡ put_at one 16 (concat (encode_modules 0 w.modules)) → three ≡ put_at two (16 + 24 * count_of w) (concat (map encode_record (all_records w.modules))) → three ≡ encode w ++ drop size old
 whole_written w old one two three head size e eh e1 e2 e3 =
     let h = encode_head w in
-    let ms = flat (encode_modules 0 w.modules) in
-    let rs = flat (map encode_record (all_records w.modules)) in
+    let ms = concat (encode_modules 0 w.modules) in
+    let rs = concat (map encode_record (all_records w.modules)) in
     let after_head : two ≡ put_at old 0 (h ++ ms) = e2 ∙ put_step old one 0 16 h ms (omega arith) (e1 ∙ ap (put_at old 0) eh) (omega (arith, head_length w)) in
     let end : 0 + length (h ++ ms) ≡ 16 + 24 * count_of w = omega (arith, length-append h ms, head_length w, modules_length 0 w.modules) in
     let size_is : 0 + length (encode w) ≡ size = omega arith in
@@ -79,11 +78,13 @@ module _ (image : List ℕ) (w : Meaning) (verdict : card_verdict image ≡ Ok t
   fits : Writable (card_meaning image)
   fits = (exact.held refl).0
 
+  pub opened_records : record_total w ≤ 32768
+  opened_records = rw means (omega (arith, counted (card_meaning image).modules, fits.few_records))
+
   pub rewritten_answer : (r : Result ℕ Fault) (room : ℕ) → r ≡ write_answer w room → r ≡ rewrite_answer image room
   rewritten_answer r room e =
       let few : count_of w ≤ 4096 = rw means fits.few_modules in
-      let records : record_total w ≤ 32768 = rw means (omega (arith, counted (card_meaning image).modules, fits.few_records)) in
-      e ∙ after_limits w room few records (ltb room (length (encode w))) refl
+      e ∙ after_limits w room few opened_records (ltb room (length (encode w))) refl
       ∙ ap (λ (x : List ℕ). go_on (refuse_if (ltb room (length x)) (card_fault WrongLength room)) (λ _. Ok (length x))) again
       ∙ ap (λ (v : Verdict). go_on (and_then v (refuse_if (ltb room (length image)) (card_fault WrongLength room))) (λ _. Ok (length image))) (sym verdict)
 

@@ -2,9 +2,8 @@
 #![tactic(auto)]
 
 ghost use Rattle.std.specs.Prelude.{◌≡◌, ◌+◌, ◌*◌, ◌<◌, ◌≤◌, map, length};
-ghost use Rattle.std.specs.List.{AllByRecursion};
+ghost use Rattle.std.specs.List.{AllByRecursion, concat};
 ghost use Rattle.source.specs.Meaning.{count_of, records_of, records_in, record_total};
-ghost use Rattle.card.specs.Bytes.{flat};
 ghost use Rattle.card.specs.Cards.{all_records, encode_modules, encode_record};
 ghost use Rattle.card_writer.specs.Written.{put_at, write_answer, left_by, AwaitFits, SpanFits, SpansFit, ReadsBack, rewrite_answer, rewritten_by};
 
@@ -23,13 +22,15 @@ fn put(out: &mut [u8], at: usize, bytes: &[u8])
 }
 
 /// Writes the block of each module, the first at byte 16.
+#[tactic(auto, using(crate::proofs::Steps::count_within))]
 fn write_modules<S: ModuleSource>(source: &S, out: &mut [u8])
     requires modules { count_of (S.ModuleSource.meaning source.now) ≤ 4096 }
     requires records { record_total (S.ModuleSource.meaning source.now) ≤ 32768 }
     requires room { 16 + 24 * count_of (S.ModuleSource.meaning source.now) ≤ length out.old }
-    ensures image { out.new ≡ put_at out.old 16 (flat (encode_modules 0 (S.ModuleSource.meaning source.now).modules)) }
+    ensures image { out.new ≡ put_at out.old 16 (concat (encode_modules 0 (S.ModuleSource.meaning source.now).modules)) }
     ensures fits { AllByRecursion AwaitFits (S.ModuleSource.meaning source.now).modules }
 {
+    // a fold would write from inside its closure, which is no plainer than this sum
     let mut first = 0;
     for m in 0..source.module_count() {
         let count = source.record_count(m);
@@ -42,7 +43,7 @@ fn write_modules<S: ModuleSource>(source: &S, out: &mut [u8])
 /// Writes the blocks of the records of one module, the first at `at`.
 fn write_records_of<S: ModuleSource>(source: &S, m: usize, out: &mut [u8], at: usize)
     requires { at + 18 * records_in (S.ModuleSource.meaning source.now) m ≤ length out.old }
-    ensures image { out.new ≡ put_at out.old at (flat (map encode_record (records_of (S.ModuleSource.meaning source.now) m))) }
+    ensures image { out.new ≡ put_at out.old at (concat (map encode_record (records_of (S.ModuleSource.meaning source.now) m))) }
     ensures fits { AllByRecursion SpanFits (records_of (S.ModuleSource.meaning source.now) m) }
 {
     for k in 0..source.record_count(m) {
@@ -52,14 +53,16 @@ fn write_records_of<S: ModuleSource>(source: &S, m: usize, out: &mut [u8], at: u
 }
 
 /// Writes the block of each record, past those of the modules.
+#[tactic(auto, using(crate::proofs::Steps::count_within))]
 fn write_records<S: ModuleSource>(source: &S, out: &mut [u8])
     requires modules { count_of (S.ModuleSource.meaning source.now) ≤ 4096 }
     requires records { record_total (S.ModuleSource.meaning source.now) ≤ 32768 }
     requires room { 16 + 24 * count_of (S.ModuleSource.meaning source.now) + 18 * record_total (S.ModuleSource.meaning source.now) ≤ length out.old }
-    ensures image { out.new ≡ put_at out.old (16 + 24 * count_of (S.ModuleSource.meaning source.now)) (flat (map encode_record (all_records (S.ModuleSource.meaning source.now).modules))) }
+    ensures image { out.new ≡ put_at out.old (16 + 24 * count_of (S.ModuleSource.meaning source.now)) (concat (map encode_record (all_records (S.ModuleSource.meaning source.now).modules))) }
     ensures fits { AllByRecursion SpansFit (S.ModuleSource.meaning source.now).modules }
 {
     let start = 16 + 24 * source.module_count();
+    // as above, a sum beside the writes
     let mut done = 0;
     for m in 0..source.module_count() {
         write_records_of(source, m, out, start + 18 * done);
@@ -78,9 +81,7 @@ pub fn write_card<S: ModuleSource>(source: &S, out: &mut [u8]) -> Result<usize, 
     if modules > MODULE_LIMIT {
         return Err(card_fault(Refusal::TooManyModules, 0));
     }
-    let Some(records) = count_records(source) else {
-        return Err(card_fault(Refusal::TooManyRecords, 0));
-    };
+    let records = count_records(source).ok_or(card_fault(Refusal::TooManyRecords, 0))?;
     let size = 16 + 24 * modules + 18 * records;
     if out.len() < size {
         return Err(card_fault(Refusal::WrongLength, out.len()));

@@ -6,15 +6,15 @@
 --   is_full       all 64 seats are taken
 --   hold_after    the numbers held after one more is asked for: a held one takes no second seat
 --   hold_answer   refused exactly where a number that is not held finds no seat
-use Rattle.std.specs.Prelude.{ℕ, suc, Bool, false, cond, not, ◌&&◌, ◌||◌, List, [], ◌∷◌, ◌++◌, length, ◌==◌, nat_le}
+use Rattle.std.specs.Prelude.{ℕ, suc, Bool, cond, not, ◌&&◌, ◌||◌, List, [], ◌∷◌, ◌++◌, length, ◌==◌, nat_le}
+use Rattle.std.specs.List.{list_any}
 use Rattle.faults.specs.Faults.{Verdict, fault, refuse_if}
 use Rattle.faults.specs.declared.Layer.TheVariants.{Source}
 use Rattle.faults.specs.declared.Refusal.TheVariants.{LayerFull}
 use Rattle.source.specs.Meaning.{Meaning, Scanned, past_modules}
 
 abbrev pub held_in : List ℕ → ℕ → Bool
-held_in [] m = false
-held_in (h ∷ hs) m = h == m || held_in hs m
+held_in hs m = list_any (λ (h : ℕ). h == m) hs
 
 abbrev pub masked : List ℕ → ℕ → List Scanned → List Scanned
 masked hs i [] = []

@@ -17,7 +17,7 @@ mod tests {
     use super::TWO;
     use card::CardSource;
     use external_layer::ExternalLayer;
-    use faults::{Fault, Layer, Place, Refusal};
+    use faults::{Layer, Refusal};
     use source::{Module, ModuleSource};
 
     #[test]
@@ -29,11 +29,7 @@ mod tests {
         assert_eq!(rt; layer.hold(63), Ok(()));
         assert_eq!(rt;
             layer.hold(64),
-            Err(Fault {
-                refusal: Refusal::LayerFull,
-                layer: Layer::Source,
-                place: Place { at: 0, record: 0 },
-            })
+            Err(Refusal::LayerFull.found_by(Layer::Source, 0, 0))
         );
         assert!(rt; layer.holds(63));
         assert!(rt; !layer.holds(64));

@@ -1,14 +1,15 @@
 -- The verdict on one row, and on all of them, from what the code tests. Assumes nothing.
-use Rattle.std.proofs.Common.{◌≡◌, ℕ, ◌<◌, ◌≤◌, true, false, not, eqb, ltb, List, length, take, Ok, Err, ◌∙◌}
+use Rattle.std.proofs.Common.{◌≡◌, ℕ, zero, suc, ◌<◌, ◌≤◌, true, false, not, eqb, ltb, List, length, get_or, take, drop, Ok, Err, refl, ◌∙◌, add-one, arith}
 use Rattle.std.proofs.lemmas.Bool.{not_from_true, not_from_false, eq-eqb, ne_eqb, lt-ltb, le-ltb}
 use Rattle.faults.specs.declared.Fault.{Fault}
 use Rattle.faults.specs.declared.Refusal.TheVariants.{TooManyModules, TooManyRecords, FieldOutOfValues, WrongFirstRecord}
 use Rattle.faults.specs.Faults.{Verdict, refuse_if, and_then, each}
-use Rattle.faults.proofs.Checks.{refuses, passes, first_refuses, first_passes}
+use Rattle.faults.proofs.Checks.{refuses, passes, first_refuses, first_passes, each_passes}
 use Rattle.source.specs.declared.ImportRecord.{ImportRecord}
 use Rattle.source.specs.Numbers.{module_limit, record_limit}
 use Rattle.row_source.specs.declared.rows.ModuleRow.{ModuleRow}
 use Rattle.row_source.specs.Checks.{total, blank, targeted, row_fault, module_row_verdict, record_row_verdict, last_sum_verdict, rows_verdict}
+use Rattle.row_source.specs.Propers.{zero_record}
 
 module _ (rows : List ModuleRow) (m : ℕ) (row : ModuleRow) where
   blank_verdict : Verdict
@@ -40,6 +41,13 @@ module _ (i : ℕ) (row : ImportRecord) where
 
   pub record_row_passes : targeted row.target ≡ true → record_row_verdict i row ≡ Ok tt
   record_row_passes e = passes _ _ (not_from_true _ e)
+
+-- the record rows before one are passed
+pub records_before : (rows : List ImportRecord) (n : ℕ) → n ≤ length rows → ((k : ℕ) → k < n → targeted (get_or rows k zero_record).target ≡ true) → each record_row_verdict 0 rows ≡ each record_row_verdict n (drop n rows)
+records_before rows zero h all = refl
+records_before rows (suc n) h all =
+    records_before rows n (omega arith) (λ k lt. all k (omega arith))
+    ∙ rw add-one at (each_passes record_row_verdict rows n zero_record (omega arith) (record_row_passes n (get_or rows n zero_record) (all n (omega arith))))
 
 -- all rows, as far as the checks before are passed
 module _ (modules : List ModuleRow) (records : List ImportRecord) where

@@ -4,35 +4,25 @@ ghost use Rattle.faults.specs.Faults.{each};
 ghost use Rattle.row_source.specs.Checks.{blank, targeted, row_fault, total, module_row_verdict, record_row_verdict, rows_verdict};
 
 use crate::rows::ModuleRow;
-use faults::{Fault, Layer, Place, Refusal};
+use faults::{Fault, Layer, Refusal};
 use source::{ImportRecord, MODULE_LIMIT, Module, RECORD_LIMIT};
 
 fn refused(refusal: Refusal, at: usize) -> Fault
     ensures { result ≡ row_fault refusal at }
 {
-    Fault {
-        refusal,
-        layer: Layer::Source,
-        place: Place { at, record: 0 },
-    }
+    refusal.found_by(Layer::Source, at, 0)
 }
 
 fn is_blank(row: &ModuleRow) -> bool
     ensures { result ≡ blank row.now.described row.now.count }
 {
-    match row.described {
-        Module::External => row.count == 0,
-        Module::Normal(_) => true,
-    }
+    matches!(row.described, Module::Normal(_)) || row.count == 0
 }
 
 fn is_targeted(row: &ImportRecord) -> bool
     ensures { result ≡ targeted row.now.target }
 {
-    match row.target {
-        Some(target) => target < u32::MAX,
-        None => true,
-    }
+    row.target.is_none_or(|target| target < u32::MAX)
 }
 
 // Every module row in turn; the answer is how many record rows they count.
@@ -56,12 +46,10 @@ fn check_module_rows(modules: &[ModuleRow]) -> Result<usize, Fault>
 fn check_record_rows(records: &[ImportRecord]) -> Result<(), Fault>
     ensures { result ≡ each record_row_verdict 0 records.now }
 {
-    for (i, row) in records.iter().enumerate() {
-        if !is_targeted(row) {
-            return Err(refused(Refusal::FieldOutOfValues, i));
-        }
+    match records.iter().position(|row| !is_targeted(row)) {
+        Some(i) => Err(refused(Refusal::FieldOutOfValues, i)),
+        None => Ok(()),
     }
-    Ok(())
 }
 
 /// Whether the rows make a source: the first fault where they do not.

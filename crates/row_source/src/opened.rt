@@ -1,5 +1,6 @@
 // The rows as a source.
 ghost use Rattle.std.specs.Prelude.{◌≡◌, true, is_ok};
+ghost use Rattle.source.specs.Meaning.{records_of};
 ghost use Rattle.row_source.specs.Checks.{rows_verdict};
 ghost use Rattle.row_source.specs.Rows.{rows_meaning, opened};
 ghost use Rattle.row_source.specs.Propers.{rows_proper};
@@ -26,18 +27,30 @@ impl<'a> RowSource<'a> {
     ) -> RowSource<'a>
         ensures { rows_meaning result.runtime result.modules.now result.records.now ≡ opened runtime modules.now records.now }
     {
-        if check_rows(modules, records).is_err() {
-            return RowSource {
+        if check_rows(modules, records).is_ok() {
+            RowSource {
+                runtime,
+                modules,
+                records,
+            }
+        } else {
+            RowSource {
                 runtime: 0,
                 modules: &[],
                 records: &[],
-            };
+            }
         }
-        RowSource {
-            runtime,
-            modules,
-            records,
-        }
+    }
+
+    /// The record rows that are the module's own.
+    fn records_of(&self, m: usize) -> &[ImportRecord]
+        ensures { result.now ≡ records_of (rows_meaning self.now.runtime self.now.modules.now self.now.records.now) m }
+    {
+        let Some(row) = self.modules.get(m) else {
+            return &[];
+        };
+        let first = row.first as usize;
+        &self.records[first..first + row.count as usize]
     }
 }
 
@@ -55,27 +68,16 @@ impl<'a> ModuleSource for RowSource<'a> {
     }
 
     fn module(&self, m: usize) -> Module {
-        if m >= self.modules.len() {
-            return Module::External;
-        }
-        self.modules[m].described
+        self.modules
+            .get(m)
+            .map_or(Module::External, |row| row.described)
     }
 
     fn record_count(&self, m: usize) -> usize {
-        if m >= self.modules.len() {
-            return 0;
-        }
-        self.modules[m].count as usize
+        self.records_of(m).len()
     }
 
     fn record(&self, m: usize, k: usize) -> ImportRecord {
-        if m >= self.modules.len() {
-            return no_record();
-        }
-        let row = self.modules[m];
-        if k >= row.count as usize {
-            return no_record();
-        }
-        self.records[row.first as usize + k]
+        self.records_of(m).get(k).copied().unwrap_or_else(no_record)
     }
 }

@@ -3,7 +3,7 @@
 
 #[cfg(test)]
 mod tests {
-    use faults::{Fault, Layer, Place, Refusal};
+    use faults::{Fault, Layer, Refusal};
     use row_source::{ModuleRow, RowSource, check_rows};
     use source::{
         ExportsKind, ImportKind, ImportRecord, Module, ModuleSource, NormalModule, Span, no_record,
@@ -41,11 +41,7 @@ mod tests {
     }
 
     fn refused(refusal: Refusal, at: usize) -> Result<(), Fault> {
-        Err(Fault {
-            refusal,
-            layer: Layer::Source,
-            place: Place { at, record: 0 },
-        })
+        Err(refusal.found_by(Layer::Source, at, 0))
     }
 
     // So many modules, the first with all of so many records.

@@ -1,5 +1,11 @@
 // The functions that are exported. A slice is a pointer and a length in C; an allocator is nothing there.
-ghost use Rattle.std.specs.Prelude.{◌≡◌};
+ghost use Rattle.std.specs.Prelude.{◌≡◌, length};
+ghost use Rattle.card.specs.Cards.{card_verdict};
+ghost use Rattle.card_writer.specs.Written.{rewrite_answer, rewritten_by};
+ghost use Rattle.tuchovai_c.specs.declared.calls.CallError.TheVariants.{Refused, NoMemory};
+ghost use Rattle.tuchovai_c.specs.Calls.{call_error, fault_numbers, status_of, told_fault, unless_refused};
+ghost use Rattle.tuchovai_c.specs.Tables.{table_room};
+ghost use Rattle.tuchovai_c.specs.Numbers.{status_number};
 
 use crate::numbers::{Status, number_of_layer};
 use crate::options::options_of;
@@ -8,12 +14,13 @@ use card::{CardSource, check_card};
 use card_writer::rewrite_card;
 use classify::{ClassifyError, classify};
 use faults::Fault;
-use source::ModuleSource;
+use source::{ModuleSource, count_records};
 use std::alloc::{AllocError, Global};
 
 /// A fault as numbers; all are 0 where there is none.
+// C reads the rule and the layer as numbers.
 #[repr(C)]
-#[derive(Clone, Copy)]
+#[derive(Clone, Copy, Default)]
 pub struct TuchovaiFault {
     pub number: u32,
     pub layer: u32,
@@ -21,55 +28,76 @@ pub struct TuchovaiFault {
     pub record: u64,
 }
 
-const NO_FAULT: TuchovaiFault = TuchovaiFault {
-    number: 0,
-    layer: 0,
-    at: 0,
-    record: 0,
-};
+impl From<Fault> for TuchovaiFault {
+    ghost from_gives = { λ fault numbers. numbers ≡ fault_numbers fault };
 
-/// Why there is no table.
-#[derive(Clone, Copy)]
-enum TableError {
-    Refused(Fault),
-    NoMemory,
-    UnknownOptions,
-}
-
-impl From<Fault> for TableError {
-    fn from(fault: Fault) -> TableError {
-        TableError::Refused(fault)
-    }
-}
-
-impl From<AllocError> for TableError {
-    fn from(_e: AllocError) -> TableError {
-        TableError::NoMemory
-    }
-}
-
-impl From<ClassifyError> for TableError {
-    fn from(error: ClassifyError) -> TableError {
-        match error {
-            ClassifyError::Memory => TableError::NoMemory,
-            ClassifyError::Refused(fault) => TableError::Refused(fault),
+    fn from(fault: Fault) -> TuchovaiFault {
+        TuchovaiFault {
+            number: u32::from(u8::from(fault.refusal)),
+            layer: number_of_layer(fault.layer),
+            at: fault.place.at as u64,
+            record: fault.place.record as u64,
         }
     }
 }
 
-fn told(fault: Fault) -> TuchovaiFault {
-    TuchovaiFault {
-        number: u32::from(u8::from(fault.refusal)),
-        layer: number_of_layer(fault.layer),
-        at: fault.place.at as u64,
-        record: fault.place.record as u64,
+/// Why a call is not done.
+#[derive(Clone, Copy)]
+enum CallError {
+    Refused(Fault),
+    NoMemory,
+    TableTooShort,
+    UnknownOptions,
+}
+
+impl From<Fault> for CallError {
+    ghost from_gives = { λ fault error. error ≡ Refused fault };
+
+    fn from(fault: Fault) -> CallError {
+        CallError::Refused(fault)
     }
 }
 
-fn table_of_card(heap: Global, image: &[u8], options: u32) -> Result<Vec<u8>, TableError> {
-    let Some(options) = options_of(options) else {
-        return Err(TableError::UnknownOptions);
+impl From<AllocError> for CallError {
+    ghost from_gives = { λ _ error. error ≡ NoMemory };
+
+    fn from(_e: AllocError) -> CallError {
+        CallError::NoMemory
+    }
+}
+
+impl From<ClassifyError> for CallError {
+    ghost from_gives = { λ e error. error ≡ call_error e };
+
+    fn from(error: ClassifyError) -> CallError {
+        match error {
+            ClassifyError::Memory => CallError::NoMemory,
+            ClassifyError::Refused(fault) => CallError::Refused(fault),
+        }
+    }
+}
+
+/// The status of what a call came to, as its number. The fault says why it was refused.
+fn told(came_to: Result<(), CallError>, fault: &mut TuchovaiFault) -> u32
+    ensures status { result ≡ status_number (status_of came_to) }
+    ensures fault { fault.new ≡ told_fault came_to }
+{
+    *fault = match came_to {
+        Err(CallError::Refused(found)) => TuchovaiFault::from(found),
+        _ => TuchovaiFault::default(),
     };
+    let status = match came_to {
+        Ok(()) => Status::Done,
+        Err(CallError::Refused(_)) => Status::Refused,
+        Err(CallError::NoMemory) => Status::NoMemory,
+        Err(CallError::TableTooShort) => Status::TableTooShort,
+        Err(CallError::UnknownOptions) => Status::UnknownOptions,
+    };
+    u32::from(status)
+}
+
+fn table_of_card(heap: Global, image: &[u8], options: u32) -> Result<Vec<u8>, CallError> {
+    let options = options_of(options).ok_or(CallError::UnknownOptions)?;
     check_card(image)?;
     let done = classify(heap, &CardSource::open(image), options)?;
     Ok(table_of(
@@ -80,45 +108,41 @@ fn table_of_card(heap: Global, image: &[u8], options: u32) -> Result<Vec<u8>, Ta
     )?)
 }
 
-/// Copies the table if there is room for it.
-fn hand_over(bytes: &[u8], table: &mut [u8]) -> Status {
+/// Writes the table of a card if there is room for it.
+fn write_table(
+    heap: Global,
+    image: &[u8],
+    options: u32,
+    table: &mut [u8],
+) -> Result<(), CallError> {
+    let bytes = table_of_card(heap, image, options)?;
     if table.len() < bytes.len() {
-        return Status::TableTooShort;
+        return Err(CallError::TableTooShort);
     }
-    table[..bytes.len()].copy_from_slice(bytes);
-    Status::Done
+    table[..bytes.len()].copy_from_slice(bytes.as_slice());
+    Ok(())
 }
 
 /// Checks a card: the first fault, or none.
 #[unsafe(no_mangle)]
-pub extern "C" fn tuchovai_check_card(image: &[u8], fault: &mut TuchovaiFault) -> u32 {
-    match check_card(image) {
-        Ok(()) => {
-            *fault = NO_FAULT;
-            Status::Done.number()
-        }
-        Err(found) => {
-            *fault = told(found);
-            Status::Refused.number()
-        }
-    }
+pub extern "C" fn tuchovai_check_card(image: &[u8], fault: &mut TuchovaiFault) -> u32
+    ensures status { result ≡ status_number (status_of (unless_refused (card_verdict image.now))) }
+    ensures fault { fault.new ≡ told_fault (unless_refused (card_verdict image.now)) }
+{
+    told(check_card(image).map_err(CallError::Refused), fault)
 }
 
 /// How many bytes are enough for the table of a card; 0 for a card that is refused.
 #[unsafe(no_mangle)]
-pub extern "C" fn tuchovai_table_size(image: &[u8]) -> usize {
+pub extern "C" fn tuchovai_table_size(image: &[u8]) -> usize
+    ensures { result ≡ table_room image.now }
+{
     if check_card(image).is_err() {
         return 0;
     }
     let source = CardSource::open(image);
-    let mut records = 0usize;
-    for m in 0..source.module_count() {
-        records = records.saturating_add(source.record_count(m));
-    }
-    records
-        .saturating_mul(28)
-        .saturating_add(source.module_count().saturating_mul(24))
-        .saturating_add(16)
+    let records = count_records(&source).unwrap();
+    16 + 24 * source.module_count() + 28 * records
 }
 
 /// Opens a card and writes it again.
@@ -127,17 +151,13 @@ pub extern "C" fn tuchovai_rewrite_card(
     image: &[u8],
     out: &mut [u8],
     fault: &mut TuchovaiFault,
-) -> u32 {
-    match rewrite_card(image, out) {
-        Ok(_) => {
-            *fault = NO_FAULT;
-            Status::Done.number()
-        }
-        Err(found) => {
-            *fault = told(found);
-            Status::Refused.number()
-        }
-    }
+) -> u32
+    ensures status { result ≡ status_number (status_of (unless_refused (rewrite_answer image.now (length out.old)))) }
+    ensures fault { fault.new ≡ told_fault (unless_refused (rewrite_answer image.now (length out.old))) }
+    ensures image { out.new ≡ rewritten_by (rewrite_answer image.now (length out.old)) image.now out.old }
+{
+    let written = rewrite_card(image, out);
+    told(written.map(|_| ()).map_err(CallError::Refused), fault)
 }
 
 /// Classifies the modules of a card and writes the table of marks and rows.
@@ -149,15 +169,5 @@ pub extern "C" fn tuchovai_classify(
     table: &mut [u8],
     fault: &mut TuchovaiFault,
 ) -> u32 {
-    *fault = NO_FAULT;
-    let status = match table_of_card(heap, image, options) {
-        Ok(bytes) => hand_over(bytes.as_slice(), table),
-        Err(TableError::NoMemory) => Status::NoMemory,
-        Err(TableError::UnknownOptions) => Status::UnknownOptions,
-        Err(TableError::Refused(found)) => {
-            *fault = told(found);
-            Status::Refused
-        }
-    };
-    status.number()
+    told(write_table(heap, image, options, table), fault)
 }

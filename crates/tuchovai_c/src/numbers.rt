@@ -6,60 +6,41 @@ use faults::Layer;
 use marks::{Helper, WrapKind};
 
 /// What a call came to.
-#[derive(Clone, Copy)]
+#[derive(Clone, Copy, PartialEq, Eq, Debug)]
 pub enum Status {
-    Done,
+    Done = 0,
     /// The fault says why.
-    Refused,
-    NoMemory,
+    Refused = 1,
+    NoMemory = 2,
     /// The table that was lent is shorter than what is to be written.
-    TableTooShort,
+    TableTooShort = 3,
     /// The options' number has a bit that means nothing.
-    UnknownOptions,
+    UnknownOptions = 4,
 }
 
-impl Status {
-    pub fn number(self) -> u32
-        ensures { result ≡ status_number self }
-    {
-        match self {
-            Status::Done => 0,
-            Status::Refused => 1,
-            Status::NoMemory => 2,
-            Status::TableTooShort => 3,
-            Status::UnknownOptions => 4,
-        }
+impl From<Status> for u32 {
+    ghost from_gives = { λ status number. number ≡ status_number status };
+
+    fn from(status: Status) -> u32 {
+        status as u32
     }
 }
 
+// Functions for the cases of other crates: `From` between two types of others is not ours to write.
 pub fn number_of_wrap(wrap: WrapKind) -> u8
     ensures { result ≡ wrap_number wrap }
 {
-    match wrap {
-        WrapKind::None => 0,
-        WrapKind::Cjs => 1,
-        WrapKind::Esm => 2,
-    }
+    wrap as u8
 }
 
 pub fn number_of_helper(helper: Helper) -> u8
     ensures { result ≡ helper_number helper }
 {
-    match helper {
-        Helper::CommonJs => 0,
-        Helper::CommonJsMin => 1,
-        Helper::Esm => 2,
-        Helper::EsmMin => 3,
-    }
+    helper as u8
 }
 
 pub fn number_of_layer(layer: Layer) -> u32
     ensures { result ≡ layer_number layer }
 {
-    match layer {
-        Layer::Card => 1,
-        Layer::Source => 2,
-        Layer::Link => 3,
-        Layer::Interop => 4,
-    }
+    layer as u32 + 1
 }

@@ -16,6 +16,7 @@ fn format_of(number: u32) -> OutputFormat
 }
 
 /// The format in the two lowest bits, then the four switches; none where a higher bit is set.
+// No `TryFrom`: the number and the options are both types of others.
 pub fn options_of(number: u32) -> Option<LinkOptions>
     ensures { result ≡ options_of number }
 {
@@ -23,10 +24,10 @@ pub fn options_of(number: u32) -> Option<LinkOptions>
         return None;
     }
     Some(LinkOptions {
-        format: format_of(number % 4),
-        splitting_off: number / 4 % 2 == 1,
-        strict_order: number / 8 % 2 == 1,
-        manual_groups: number / 16 % 2 == 1,
-        profiler_names: number / 32 % 2 == 1,
+        format: format_of(number & 3),
+        splitting_off: number >> 2 & 1 == 1,
+        strict_order: number >> 3 & 1 == 1,
+        manual_groups: number >> 4 & 1 == 1,
+        profiler_names: number >> 5 & 1 == 1,
     })
 }

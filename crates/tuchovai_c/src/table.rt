@@ -1,35 +1,21 @@
 // Marks and rows as one table of bytes.
-ghost use Rattle.std.specs.Prelude.{◌≡◌, ◌<◌, ◌≤◌, ◌++◌, map, length, IfOk, vec_len, OnOk};
-ghost use Rattle.card.specs.Bytes.{flat};
-ghost use Rattle.tuchovai_c.specs.Tables.{mark_bytes, await_bytes, wrapper_bytes, head_bytes, table_bytes, table_length};
+ghost use Rattle.std.specs.Prelude.{◌≡◌, ◌^◌, ◌<◌, ◌≤◌, ◌++◌, map, length, IfOk, OnOk};
+ghost use Rattle.std.specs.List.{concat};
+ghost use Rattle.tuchovai_c.specs.Tables.{table_bytes};
 
-use crate::rows::{bytes_of_await, bytes_of_head, bytes_of_mark, bytes_of_wrapper};
+use crate::rows::{TableRow, bytes_of_head};
 use marks::{AwaitRow, MarkRow, WrapperRow};
 use std::alloc::{AllocError, Global};
 
-fn put_marks(bytes: &mut Vec<u8>, rows: &[MarkRow]) -> Result<(), AllocError>
-    ensures { OnOk result (bytes.new.items ≡ bytes.old.items ++ flat (map mark_bytes rows.now)) }
+fn put_rows<const N: usize, R: TableRow<N>>(
+    bytes: &mut Vec<u8>,
+    rows: &[R],
+) -> Result<(), AllocError>
+    requires { N < 2 ^ 63 }
+    ensures { OnOk result (bytes.new.items ≡ bytes.old.items ++ concat (map R.row_bytes rows.now)) }
 {
     for row in rows {
-        bytes.extend_from_slice(&bytes_of_mark(*row))?;
-    }
-    Ok(())
-}
-
-fn put_awaits(bytes: &mut Vec<u8>, rows: &[AwaitRow]) -> Result<(), AllocError>
-    ensures { OnOk result (bytes.new.items ≡ bytes.old.items ++ flat (map await_bytes rows.now)) }
-{
-    for row in rows {
-        bytes.extend_from_slice(&bytes_of_await(*row))?;
-    }
-    Ok(())
-}
-
-fn put_wrappers(bytes: &mut Vec<u8>, rows: &[WrapperRow]) -> Result<(), AllocError>
-    ensures { OnOk result (bytes.new.items ≡ bytes.old.items ++ flat (map wrapper_bytes rows.now)) }
-{
-    for row in rows {
-        bytes.extend_from_slice(&bytes_of_wrapper(*row))?;
+        bytes.extend_from_slice(&row.to_bytes())?;
     }
     Ok(())
 }
@@ -55,8 +41,8 @@ pub fn table_of(
         size as u32,
     );
     bytes.extend_from_slice(&head)?;
-    put_marks(&mut bytes, marks)?;
-    put_awaits(&mut bytes, awaits)?;
-    put_wrappers(&mut bytes, wrappers)?;
+    put_rows(&mut bytes, marks)?;
+    put_rows(&mut bytes, awaits)?;
+    put_rows(&mut bytes, wrappers)?;
     Ok(bytes)
 }

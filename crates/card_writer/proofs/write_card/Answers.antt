@@ -12,10 +12,11 @@ use Rattle.card_writer.proofs.write_card.Goals as goal
 pub returns-then-out-size : goal.returns-then-out-size
 returns-then-out-size g c =
     let w = g.S.ModuleSource.meaning c.args.source.now in
-    let size : 16 + 24 * c.module_count-modules.result + 18 * c.in-Some.records ≡ length (encode w) =
-    omega (arith, encode_length w, counted w.modules, c.module_count-modules.ensures, c.in-Some.ensures.0) in
+    let sum = rw c.in_ok-records.ensures.ok_part at c.count_records.ensures in
+    let size : 16 + 24 * c.module_count-modules.result + 18 * c.in_ok-records.records ≡ length (encode w) =
+    omega (arith, encode_length w, counted w.modules, c.module_count-modules.ensures, sum.0) in
     record {
-      answer = ap (λ (f : Fault). Err f) c.card_fault-then-out-size.ensures ∙ too_short w (length c.args.out.now) (omega (arith, c.module_count-modules.ensures)) (omega (arith, c.in-Some.ensures)) _ size (omega arith);
+      answer = ap (λ (f : Fault). Err f) c.card_fault-then-out-size.ensures ∙ too_short w (length c.args.out.now) (omega (arith, c.module_count-modules.ensures)) (omega (arith, sum)) _ size (omega arith);
       image = refl;
       back = tt;
     }
@@ -23,16 +24,17 @@ returns-then-out-size g c =
 pub returns : goal.returns
 returns g c =
     let w = g.S.ModuleSource.meaning c.args.source.now in
+    let sum = rw c.in_ok-records.ensures.ok_part at c.count_records.ensures in
     let old = c.args.out.now in
     let few : count_of w ≤ 4096 = omega (arith, c.module_count-modules.ensures) in
-    let total : c.in-Some.records ≡ record_total w = c.in-Some.ensures.0 in
-    let records : record_total w ≤ 32768 = omega (arith, c.in-Some.ensures) in
-    let size : 16 + 24 * c.module_count-modules.result + 18 * c.in-Some.records ≡ length (encode w) =
+    let total : c.in_ok-records.records ≡ record_total w = sum.0 in
+    let records : record_total w ≤ 32768 = omega (arith, sum) in
+    let size : 16 + 24 * c.module_count-modules.result + 18 * c.in_ok-records.records ≡ length (encode w) =
     omega (arith, encode_length w, counted w.modules, total, c.module_count-modules.ensures) in
     let head : c.head_block-head.result ≡ encode_head w =
     c.head_block-head.ensures
-    ∙ ap (λ (n : ℕ). block 16 1 (le4 n ++ (le4 c.module_count-modules.result ++ le4 c.in-Some.records))) c.runtime.ensures
-    ∙ ap (λ (n : ℕ). block 16 1 (le4 w.runtime ++ (le4 n ++ le4 c.in-Some.records))) c.module_count-modules.ensures
+    ∙ ap (λ (n : ℕ). block 16 1 (le4 n ++ (le4 c.module_count-modules.result ++ le4 c.in_ok-records.records))) c.runtime.ensures
+    ∙ ap (λ (n : ℕ). block 16 1 (le4 w.runtime ++ (le4 n ++ le4 c.in_ok-records.records))) c.module_count-modules.ensures
     ∙ ap (λ (n : ℕ). block 16 1 (le4 w.runtime ++ (le4 (count_of w) ++ le4 n))) (total ∙ counted w.modules) in
     let image = whole_written w old c.put.new.out c.write_modules.new.out c.write_records.new.out c.head_block-head.result _ size head
     c.put.ensures c.write_modules.ensures.image c.write_records.ensures.image in

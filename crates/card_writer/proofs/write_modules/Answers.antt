@@ -1,34 +1,15 @@
 use Rattle.std.proofs.Common.{◌<◌, length, ap, ◌∙◌, subst, arith}
 use Rattle.std.proofs.lemmas.List.{take_all}
 use Rattle.std.proofs.ByRecursion.{All-more}
-use Rattle.std.specs.List.{AllByRecursion}
+use Rattle.std.specs.List.{AllByRecursion, concat}
 use Rattle.source.specs.declared.Module.{Module}
 use Rattle.source.specs.Meaning.{past_modules}
-use Rattle.card.specs.Bytes.{flat}
 use Rattle.card.specs.Cards.{encode_modules}
 use Rattle.card.specs.Fields.{await_start, await_end}
 use Rattle.card.specs.Writable.{Fits32}
 use Rattle.card_writer.specs.Written.{put_at, AwaitFits}
-use Rattle.card_writer.proofs.Steps.{count_more, count_within, module_turn}
+use Rattle.card_writer.proofs.Steps.{count_more, module_turn}
 use Rattle.card_writer.proofs.write_modules.Goals as goal
-
-pub overflow_cast-first : goal.overflow_cast-first
-overflow_cast-first g c =
-    let ss = (g.S.ModuleSource.meaning c.args.source.now).modules in
-    let lt : c.loop-m.m < length ss = omega (arith, c.module_count-m-end.ensures) in
-    omega (arith, count_within ss c.loop-m.m lt, c.loop-m.invariant.0, c.requires.records)
-
-pub overflow_cast-count : goal.overflow_cast-count
-overflow_cast-count g c =
-    let ss = (g.S.ModuleSource.meaning c.args.source.now).modules in
-    let lt : c.loop-m.m < length ss = omega (arith, c.module_count-m-end.ensures) in
-    omega (arith, count_within ss c.loop-m.m lt, c.record_count-count.ensures, c.requires.records)
-
-pub overflow_add-first : goal.overflow_add-first
-overflow_add-first g c =
-    let ss = (g.S.ModuleSource.meaning c.args.source.now).modules in
-    let lt : c.loop-m.m < length ss = omega (arith, c.module_count-m-end.ensures) in
-    omega (arith, count_within ss c.loop-m.m lt, c.record_count-count.ensures, c.loop-m.invariant.0, c.requires.records)
 
 pub loop-m-preserved : goal.loop-m-preserved
 loop-m-preserved g c =
@@ -47,6 +28,6 @@ returns g c =
     let ss = (g.S.ModuleSource.meaning c.args.source.now).modules in
     let whole = take_all c.loop-m.m ss (omega (arith, c.module_count-m-end.ensures)) in
     record {
-      image = c.loop-m.invariant.1 ∙ ap (λ x. put_at c.args.out.now 16 (flat (encode_modules 0 x))) whole;
+      image = c.loop-m.invariant.1 ∙ ap (λ x. put_at c.args.out.now 16 (concat (encode_modules 0 x))) whole;
       fits = subst (AllByRecursion AwaitFits) whole c.loop-m.invariant.2;
     }

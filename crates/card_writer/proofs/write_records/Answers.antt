@@ -1,40 +1,15 @@
 use Rattle.std.proofs.Common.{◌+◌, ◌*◌, ◌<◌, map, length, refl, ap, ◌∙◌, subst, arith}
 use Rattle.std.proofs.lemmas.List.{take_all}
 use Rattle.std.proofs.ByRecursion.{All-more}
-use Rattle.std.specs.List.{AllByRecursion}
+use Rattle.std.specs.List.{AllByRecursion, concat}
 use Rattle.source.specs.Meaning.{past_modules}
-use Rattle.card.specs.Bytes.{flat}
 use Rattle.card.specs.Cards.{all_records, encode_record}
 use Rattle.card_writer.specs.Written.{put_at, SpansFit}
-use Rattle.card_writer.proofs.Steps.{put_none, count_more, count_within, records_turn}
+use Rattle.card_writer.proofs.Steps.{put_none, count_more, records_turn}
 use Rattle.card_writer.proofs.write_records.Goals as goal
 
 pub loop-m-init : goal.loop-m-init
 loop-m-init g c = (refl, put_none c.args.out.now (16 + 24 * c.module_count.result), tt)
-
-pub overflow_mul-done : goal.overflow_mul-done
-overflow_mul-done g c =
-    let ss = (g.S.ModuleSource.meaning c.args.source.now).modules in
-    let lt : c.loop-m.m < length ss = omega (arith, c.module_count-m-end.ensures) in
-    omega (arith, count_within ss c.loop-m.m lt, c.loop-m.invariant.0, c.requires.records)
-
-pub overflow_add-start-in-loop-m : goal.overflow_add-start-in-loop-m
-overflow_add-start-in-loop-m g c =
-    let ss = (g.S.ModuleSource.meaning c.args.source.now).modules in
-    let lt : c.loop-m.m < length ss = omega (arith, c.module_count-m-end.ensures) in
-    omega (arith, count_within ss c.loop-m.m lt, c.loop-m.invariant.0, c.requires.records, c.requires.modules, c.module_count.ensures)
-
-pub write_records_of-requires : goal.write_records_of-requires
-write_records_of-requires g c =
-    let ss = (g.S.ModuleSource.meaning c.args.source.now).modules in
-    let lt : c.loop-m.m < length ss = omega (arith, c.module_count-m-end.ensures) in
-    omega (arith, count_within ss c.loop-m.m lt, c.loop-m.invariant.0, c.requires.room, c.module_count.ensures)
-
-pub overflow_add-done : goal.overflow_add-done
-overflow_add-done g c =
-    let ss = (g.S.ModuleSource.meaning c.args.source.now).modules in
-    let lt : c.loop-m.m < length ss = omega (arith, c.module_count-m-end.ensures) in
-    omega (arith, count_within ss c.loop-m.m lt, c.loop-m.invariant.0, c.requires.records, c.record_count-done.ensures)
 
 pub loop-m-preserved : goal.loop-m-preserved
 loop-m-preserved g c =
@@ -54,7 +29,7 @@ returns g c =
     record {
       image =
           c.loop-m.invariant.1
-          ∙ ap (λ x. put_at c.args.out.now (16 + 24 * c.module_count.result) (flat (map encode_record (all_records x)))) whole
-          ∙ ap (λ n. put_at c.args.out.now (16 + 24 * n) (flat (map encode_record (all_records ss)))) c.module_count.ensures;
+          ∙ ap (λ x. put_at c.args.out.now (16 + 24 * c.module_count.result) (concat (map encode_record (all_records x)))) whole
+          ∙ ap (λ n. put_at c.args.out.now (16 + 24 * n) (concat (map encode_record (all_records ss)))) c.module_count.ensures;
       fits = subst (AllByRecursion SpansFit) whole c.loop-m.invariant.2;
     }

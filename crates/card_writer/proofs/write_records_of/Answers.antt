@@ -1,9 +1,8 @@
 use Rattle.std.proofs.Common.{◌<◌, map, length, ap, ◌∙◌, subst, arith}
 use Rattle.std.proofs.lemmas.List.{take_all}
 use Rattle.std.proofs.ByRecursion.{All-more}
-use Rattle.std.specs.List.{AllByRecursion}
+use Rattle.std.specs.List.{AllByRecursion, concat}
 use Rattle.source.specs.Meaning.{records_of, past_records}
-use Rattle.card.specs.Bytes.{flat}
 use Rattle.card.specs.Cards.{encode_record}
 use Rattle.card_writer.specs.Written.{put_at, SpanFits}
 use Rattle.card_writer.proofs.Steps.{put_none, record_turn}
@@ -28,6 +27,6 @@ returns g c =
     let rs = records_of (g.S.ModuleSource.meaning c.args.source.now) c.args.m in
     let whole = take_all c.loop-k.k rs (omega (arith, c.record_count-k-end.ensures)) in
     record {
-      image = c.loop-k.invariant.0 ∙ ap (λ x. put_at c.args.out.now c.args.at (flat (map encode_record x))) whole;
+      image = c.loop-k.invariant.0 ∙ ap (λ x. put_at c.args.out.now c.args.at (concat (map encode_record x))) whole;
       fits = subst (AllByRecursion SpanFits) whole c.loop-k.invariant.1;
     }

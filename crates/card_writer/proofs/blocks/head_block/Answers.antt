@@ -7,6 +7,6 @@ pub returns : goal.returns
 unfolding le2
 returns c =
     ap (λ (x : List ℕ). 16 ∷ 0 ∷ 1 ∷ 0 ∷ x)
-    (two_more (spelled4 c.bytes_of.result c.args.runtime c.bytes_of.ensures.bytes)
-    (two_more (spelled4 c.bytes_of-2.result c.args.modules c.bytes_of-2.ensures.bytes)
-    (spelled4 c.bytes_of-3.result c.args.records c.bytes_of-3.ensures.bytes)))
+    (two_more (spelled4 c.to_le_bytes.result c.args.runtime c.to_le_bytes.ensures)
+    (two_more (spelled4 c.to_le_bytes-2.result c.args.modules c.to_le_bytes-2.ensures)
+    (spelled4 c.to_le_bytes-3.result c.args.records c.to_le_bytes-3.ensures)))

@@ -8,6 +8,6 @@ returns c =
     four_parts _ _ _ _ _ _ _ _ _ c.in_ok-bytes.ensures.items
     (chosen _ _ _ _ c.extend_from_slice.ensures.items (ap is_ok c.in_ok-extend_from_slice.was))
     c.bytes_of_head-head.ensures
-    c.in_ok-put_marks.ensures
-    c.in_ok-put_awaits.ensures
-    c.in_ok-put_wrappers.ensures
+    c.in_ok-put_rows.ensures
+    c.in_ok-put_rows-2.ensures
+    c.in_ok-put_rows-3.ensures

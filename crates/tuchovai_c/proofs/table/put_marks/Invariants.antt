@@ -1,7 +1,0 @@
-use Rattle.std.proofs.Common.{vec_items}
-use Rattle.tuchovai_c.specs.Tables.{mark_bytes}
-use Rattle.tuchovai_c.proofs.Growing.{Put}
-use Rattle.tuchovai_c.proofs.table.put_marks.Given as goal
-
-abbrev pub invariant-loop-row : goal.invariant-loop-row
-invariant-loop-row l = Put mark_bytes l.rows l.row-index (vec_items l.initial.bytes) (vec_items l.bytes)
