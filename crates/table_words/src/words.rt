@@ -1,6 +1,6 @@
 // The words of the text form, written and read.
 ghost use Rattle.std.specs.Prelude.{◌≡◌, ℕ, List};
-ghost use Rattle.table_words.specs.Words.{exports_word, import_word, flag_word, Named};
+ghost use Rattle.table_words.specs.Words.{exports_word, import_word, flag_word, yes_no, Named};
 
 use source::{ExportsKind, ImportKind};
 
@@ -96,6 +96,22 @@ impl Worded for Flag {
             "module" => Some(Flag::Module),
             "node" => Some(Flag::Node),
             "entry" => Some(Flag::Entry),
+            _ => None,
+        }
+    }
+}
+
+impl Worded for bool {
+    ghost word = { yes_no };
+
+    fn word(self) -> &'static str {
+        if self { "yes" } else { "no" }
+    }
+
+    fn from_word(text: &str) -> Option<bool> {
+        match text {
+            "yes" => Some(true),
+            "no" => Some(false),
             _ => None,
         }
     }
