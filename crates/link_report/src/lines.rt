@@ -45,8 +45,10 @@ fn call_lines(text: &mut String, done: &ListRun) -> Result<bool, AllocError> {
     }
     match done.finish {
         Ok(_) => writeln!(text, "call name=finish answer=accepted")?,
-        Err(fault) if fault.refusal == Refusal::NotAtThisStage =>
-            writeln!(text, "call name=finish answer=left-out")?,
+        Err(fault) if fault.refusal == Refusal::NotAtThisStage => writeln!(
+            text,
+            "call name=finish answer=left-out"
+        )?,
         Err(fault) => {
             let name = "finish";
             let refused = RefusedCall { name, fault };
