@@ -1,6 +1,6 @@
 // What a run has to say.
-ghost use Rattle.std.specs.Prelude.{◌≡◌, IfOk};
-ghost use Rattle.commands.specs.Reports.{Quiet, Whole};
+ghost use Rattle.std.specs.Prelude.{◌≡◌, IfOk, string_bytes};
+ghost use Rattle.commands.specs.Reports.{Quiet, Whole, status, run_text};
 
 use crate::errors::CommandError;
 use std::alloc::{AllocError, Global};
@@ -44,5 +44,22 @@ impl Report {
             }),
             Err(CommandError::NoMemory(error)) => Err(error),
         }
+    }
+
+    /// The status of the run.
+    pub fn status(&self) -> u8
+        ensures { result ≡ status self.now }
+    {
+        u8::from(self.failed)
+    }
+
+    /// How a run with these words is told: the words, what went out, and the status.
+    pub fn told(&self, heap: Global, words: &str) -> Result<String, AllocError>
+        ensures { IfOk result (λ text. string_bytes text ≡ run_text words.now self.now) }
+    {
+        let out = self.out.as_str();
+        let err = self.err.as_str();
+        let status = self.status();
+        format!(in heap; "$ tuchovai {words}\n{out}{err}status {status}\n")
     }
 }

@@ -7,6 +7,6 @@ mod numbers;
 mod words;
 
 pub use flags::{has_flag, raise};
-pub use lines::{LineError, TextError, end_line, read_lines};
+pub use lines::{LineError, TextError, end_line, owned_words, read_lines};
 pub use numbers::{read_number, read_span};
 pub use words::{Flag, Worded};

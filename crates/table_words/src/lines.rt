@@ -3,7 +3,7 @@ ghost use Rattle.std.specs.Prelude.{◌≡◌, IfErr, MatchResult};
 ghost use Rattle.table_words.specs.declared.lines.LineError.TheVariants.{NoMemory};
 ghost use Rattle.table_words.specs.Lines.{at_line, NamesLine};
 
-use std::alloc::{AllocError, AllocFailed};
+use std::alloc::{AllocError, AllocFailed, Global};
 use std::fmt;
 use std::str::SplitWhitespace;
 
@@ -84,4 +84,11 @@ pub fn end_line<E: Drop>(mut words: SplitWhitespace<'_>, end: E) -> Result<(), E
         None => Ok(()),
         Some(_) => Err(end),
     }
+}
+
+/// The words of a text, each owned.
+pub fn owned_words(heap: Global, text: &str) -> Result<Vec<String>, AllocError> {
+    text.split_whitespace()
+        .map(|word| -> Result<String, AllocError> { String::from_str(heap, word) })
+        .try_collect(heap)
 }
