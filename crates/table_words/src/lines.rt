@@ -1,5 +1,5 @@
 // Texts of lines: each line has words, and a comment from `#` on.
-ghost use Rattle.std.specs.Prelude.{◌≡◌, IfErr, MatchResult};
+ghost use Rattle.std.specs.Prelude.{◌≡◌, ◌<◌, IfOk, IfErr, MatchResult, string_len, All};
 ghost use Rattle.table_words.specs.declared.lines.LineError.TheVariants.{NoMemory};
 ghost use Rattle.table_words.specs.Lines.{at_line, NamesLine};
 
@@ -87,7 +87,9 @@ pub fn end_line<E: Drop>(mut words: SplitWhitespace<'_>, end: E) -> Result<(), E
 }
 
 /// The words of a text, each owned.
-pub fn owned_words(heap: Global, text: &str) -> Result<Vec<String>, AllocError> {
+pub fn owned_words(heap: Global, text: &str) -> Result<Vec<String>, AllocError>
+    ensures { IfOk result (λ words. All (λ word. 0 < string_len word) words.items) }
+{
     text.split_whitespace()
         .map(|word| -> Result<String, AllocError> { String::from_str(heap, word) })
         .try_collect(heap)
