@@ -2,10 +2,9 @@
 --
 --   Quiet        nothing goes to standard error
 --   Whole        standard error has text only where the status is 1 and nothing goes to standard output: nothing is half printed
---   fault_text   how a fault is printed, as `number=14 layer=card place=40,0`
-use Rattle.std.specs.Prelude.{◌≡◌, ℕ, true, ◌⊎◌, List, [], ◌++◌, string_bytes, codes, decimal}
-use Rattle.faults.specs.declared.Fault.{Fault}
-use Rattle.faults.specs.Faults.{refusal_number, layer_name}
+--   status       1 or 0
+--   run_text     how a run with these words is told: the words in a line, what goes to both, and a line with the status
+use Rattle.std.specs.Prelude.{◌≡◌, ℕ, true, cond, ◌⊎◌, List, [], ◌∷◌, ◌++◌, string_bytes, codes, decimal}
 use Rattle.commands.specs.declared.report.Report.{Report}
 
 abbrev pub Quiet : Report → Type 0
@@ -14,6 +13,9 @@ Quiet report = string_bytes report.err ≡ []
 abbrev pub Whole : Report → Type 0
 Whole report = Quiet report ⊎ ((string_bytes report.out ≡ []) × (report.failed ≡ true))
 
-abbrev pub fault_text : Fault → List ℕ
-fault_text f =
-    codes "number=" ++ (decimal (refusal_number f.refusal) ++ (codes " layer=" ++ (layer_name f.layer ++ (codes " place=" ++ (decimal f.place.at ++ (codes "," ++ decimal f.place.«record»))))))
+abbrev pub status : Report → ℕ
+status report = cond report.failed 1 0
+
+abbrev pub run_text : List ℕ → Report → List ℕ
+run_text words report =
+    codes "$ tuchovai " ++ (words ++ (10 ∷ (string_bytes report.out ++ (string_bytes report.err ++ (codes "status " ++ (decimal (status report) ++ (10 ∷ [])))))))

@@ -2,18 +2,20 @@
 ghost use Rattle.std.specs.Prelude.{IfOk};
 ghost use Rattle.commands.specs.Reports.{Quiet};
 
-use crate::dispatch::{fault_words, quiet, refusal};
+use crate::dispatch::source_in;
 use crate::errors::CommandError;
-use crate::files::{Contents, read_contents, read_interop_file};
+use crate::files::{read_contents, read_interop_file};
 use crate::report::Report;
-use card::{CardSource, check_card};
 use faults::Fault;
-use interop::{ChunkAssignments, modes, reader, recorded_use};
-use interop_rows::{InteropRows, use_word};
-use row_source::{RowSource, check_rows};
+use interop::{ChunkAssignments, Question};
+use interop_rows::use_word;
 use source::ModuleSource;
-use std::alloc::{AllocError, Global};
-use table_words::read_number;
+use spread::InteropUse;
+use std::fmt;
+use table_words::{Worded, read_number};
+
+/// How the question is asked.
+pub const INTEROP_USAGE: &str = "usage: tuchovai interop FILE ROWS --chunk=N --namespace=N";
 
 // Which chunk and which namespace are asked about.
 #[derive(Clone, Copy)]
@@ -40,62 +42,28 @@ fn read_asked(words: &[String]) -> Option<Asked> {
     })
 }
 
-// The three answers in a line.
-fn answer_words<S: ModuleSource>(
-    heap: Global,
-    source: &S,
-    rows: &InteropRows,
-    asked: Asked,
-) -> Result<Result<String, Fault>, AllocError> {
-    let chunks = ChunkAssignments::new(rows.assigned.as_slice(), rows.removed.as_slice());
-    let observers = rows.observers.as_slice();
-    let imports = rows.imports.as_slice();
-    let read = match reader(
-        source,
-        chunks,
-        observers,
-        imports,
-        asked.namespace,
-        asked.chunk,
-    ) {
-        Ok(read) => read,
-        Err(fault) => return Ok(Err(fault)),
-    };
-    let recorded = match recorded_use(source, chunks, observers, asked.namespace, asked.chunk) {
-        Ok(recorded) => use_word(recorded),
-        Err(fault) => return Ok(Err(fault)),
-    };
-    let needed = match modes(
-        source,
-        chunks,
-        observers,
-        imports,
-        asked.namespace,
-        asked.chunk,
-    ) {
-        Ok(needed) => use_word(needed),
-        Err(fault) => return Ok(Err(fault)),
-    };
-    let reads = if read { "yes" } else { "no" };
-    Ok(Ok(format!(in heap; "interop recorded={recorded} modes={needed} reader={reads}\n")?))
+#[derive(Clone, Copy)]
+struct Answers {
+    recorded: Option<InteropUse>,
+    modes: Option<InteropUse>,
+    reader: bool,
 }
 
-fn answer<S: ModuleSource>(
-    heap: Global,
-    source: &S,
-    rows: &InteropRows,
-    asked: Asked,
-) -> Result<Report, AllocError>
-    ensures { IfOk result Quiet }
-{
-    match answer_words(heap, source, rows, asked)? {
-        Ok(out) => Ok(quiet(heap, out, false)),
-        Err(fault) => {
-            let fault = fault_words(heap, &fault)?;
-            let out = format!(in heap; "interop answer=refused {fault}\n")?;
-            Ok(quiet(heap, out, true))
-        }
+impl fmt::Display for Answers {
+    fn fmt<W: fmt::Write>(&self, f: &mut fmt::Formatter<W>) -> fmt::Result {
+        let recorded = use_word(self.recorded);
+        let modes = use_word(self.modes);
+        let reader = self.reader.word();
+        write!(f, "recorded={recorded} modes={modes} reader={reader}")
     }
+}
+
+fn answer<S: ModuleSource>(question: &Question<'_, S>) -> Result<Answers, Fault> {
+    Ok(Answers {
+        reader: question.reader()?,
+        recorded: question.recorded_use()?,
+        modes: question.modes()?,
+    })
 }
 
 /// `interop FILE ROWS --chunk=N --namespace=N`, from the words after these two.
@@ -109,30 +77,23 @@ pub fn interop(
 {
     let heap = rt.alloc();
     let Some(asked) = read_asked(options) else {
-        return Err(CommandError::Message(format!(in heap;
-            "usage: tuchovai interop FILE ROWS --chunk=N --namespace=N"
-        )?));
+        return Err(String::from_str(heap, INTEROP_USAGE)?.into());
     };
     let contents = read_contents(rt, path)?;
     let rows = read_interop_file(rt, rows_path)?;
-    match contents {
-        Contents::Rows(table) => {
-            let (modules, records) = (table.modules.as_slice(), table.records.as_slice());
-            if let Err(fault) = check_rows(modules, records) {
-                return Err(refusal(heap, path, &fault)?);
-            }
-            Ok(answer(
-                heap,
-                &RowSource::open(table.runtime, modules, records),
-                &rows,
-                asked,
-            )?)
-        }
-        Contents::Image(image) => {
-            if let Err(fault) = check_card(image.as_slice()) {
-                return Err(refusal(heap, path, &fault)?);
-            }
-            Ok(answer(heap, &CardSource::open(image.as_slice()), &rows, asked)?)
-        }
-    }
+    let source = source_in(heap, path, &contents)?;
+    let chunks = ChunkAssignments::new(rows.assigned.as_slice(), rows.removed.as_slice());
+    let answers = answer(&Question {
+        source: &source,
+        chunks,
+        observers: rows.observers.as_slice(),
+        imports: rows.imports.as_slice(),
+        namespace: asked.namespace,
+        chunk: asked.chunk,
+    });
+    let out = match answers {
+        Ok(answers) => format!(in heap; "interop {answers}\n")?,
+        Err(fault) => format!(in heap; "interop answer=refused {fault}\n")?,
+    };
+    Ok(Report::quiet(heap, out, answers.is_err()))
 }

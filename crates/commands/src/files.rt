@@ -1,9 +1,11 @@
 // Files that hold a source.
-use crate::errors::CommandError;
+use crate::errors::{CommandError, in_file};
+use crate::sources::Contents;
 use interop_rows::{InteropRows, read_rows as read_interop_rows};
+use std::alloc::Global;
 use std::fs;
 use std::str::from_utf8;
-use table::{Table, read_table};
+use table::read_table;
 
 /// A larger file is not read: the largest source has some seven hundred kilobytes as a card, and a megabyte as a table.
 const FILE_LIMIT: u64 = 16_777_216;
@@ -11,43 +13,22 @@ const FILE_LIMIT: u64 = 16_777_216;
 /// The length and kind with which every card begins.
 const CARD_HEAD: [u8; 4] = [16, 0, 1, 0];
 
-/// What a file holds: rows that were written as a text table, or the image of a card.
-#[derive(Drop)]
-pub enum Contents {
-    Rows(Table),
-    Image(Vec<u8>),
-}
-
 /// The file's bytes, or why there are none.
 fn read_file(rt: &HostRuntime, path: &str) -> Result<Vec<u8>, CommandError> {
     let heap = rt.alloc();
-    let size = match fs::metadata(rt, path) {
-        Ok(metadata) => metadata.len(),
-        Err(error) => return Err(CommandError::Message(format!(in heap; "{path}: {error}")?)),
-    };
+    let size = in_file(heap, path, fs::metadata(rt, path))?.len();
     if size > FILE_LIMIT {
-        return Err(CommandError::Message(format!(in heap;
-            "{path}: larger than {FILE_LIMIT} bytes"
-        )?));
+        return Err(format!(in heap; "{path}: larger than {FILE_LIMIT} bytes")?.into());
     }
-    match fs::read(rt, path) {
-        Ok(bytes) => Ok(bytes),
-        Err(error) => Err(CommandError::Message(format!(in heap; "{path}: {error}")?)),
-    }
+    in_file(heap, path, fs::read(rt, path))
 }
 
-fn read_rows(rt: &HostRuntime, path: &str, bytes: &[u8]) -> Result<Table, CommandError> {
-    let heap = rt.alloc();
-    let text = match from_utf8(bytes) {
-        Ok(text) => text,
-        Err(_) => return Err(CommandError::Message(format!(in heap;
-            "{path}: not a text in UTF-8"
-        )?)),
-    };
-    match read_table(heap, text) {
-        Ok(table) => Ok(table),
-        Err(error) => Err(CommandError::Message(format!(in heap; "{path}: {error}")?)),
-    }
+fn text_of<'a>(heap: Global, path: &str, bytes: &'a [u8]) -> Result<&'a str, CommandError> {
+    in_file(
+        heap,
+        path,
+        from_utf8(bytes).map_err(|_| "not a text in UTF-8"),
+    )
 }
 
 /// Whether a file is taken for a card: by its name, or else by its first four bytes.
@@ -69,32 +50,20 @@ pub fn read_contents(rt: &HostRuntime, path: &str) -> Result<Contents, CommandEr
         return Ok(Contents::Image(bytes));
     }
     if bytes.is_empty() {
-        return Err(CommandError::Message(format!(in heap;
-            "{path}: empty, so neither a table nor a card"
-        )?));
+        return Err(format!(in heap; "{path}: empty, so neither a table nor a card")?.into());
     }
-    Ok(Contents::Rows(read_rows(rt, path, bytes.as_slice())?))
+    let text = text_of(heap, path, bytes.as_slice())?;
+    Ok(Contents::Rows(in_file(heap, path, read_table(heap, text))?))
 }
 
 pub fn write_file(rt: &HostRuntime, path: &str, bytes: &[u8]) -> Result<(), CommandError> {
-    match fs::write(rt, path, bytes) {
-        Ok(()) => Ok(()),
-        Err(error) => Err(CommandError::Message(format!(in rt.alloc(); "{path}: {error}")?)),
-    }
+    in_file(rt.alloc(), path, fs::write(rt, path, bytes))
 }
 
 /// The interop rows of a text file.
 pub fn read_interop_file(rt: &HostRuntime, path: &str) -> Result<InteropRows, CommandError> {
     let heap = rt.alloc();
     let bytes = read_file(rt, path)?;
-    let text = match from_utf8(bytes.as_slice()) {
-        Ok(text) => text,
-        Err(_) => return Err(CommandError::Message(format!(in heap;
-            "{path}: not a text in UTF-8"
-        )?)),
-    };
-    match read_interop_rows(heap, text) {
-        Ok(rows) => Ok(rows),
-        Err(error) => Err(CommandError::Message(format!(in heap; "{path}: {error}")?)),
-    }
+    let text = text_of(heap, path, bytes.as_slice())?;
+    in_file(heap, path, read_interop_rows(heap, text))
 }

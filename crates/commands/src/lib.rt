@@ -5,9 +5,13 @@ mod ask;
 mod dispatch;
 mod errors;
 mod files;
+mod refused;
 mod report;
+mod sources;
 
-pub use dispatch::{fault_words, quiet, run};
-pub use errors::CommandError;
-pub use files::{Contents, read_contents};
+pub use dispatch::run;
+pub use errors::{CommandError, in_file};
+pub use files::read_contents;
+pub use refused::Refused;
 pub use report::Report;
+pub use sources::{Contents, OpenSource};

@@ -1,4 +1,9 @@
 // What a run has to say.
+ghost use Rattle.std.specs.Prelude.{◌≡◌, IfOk, string_bytes};
+ghost use Rattle.commands.specs.Reports.{Quiet, Whole, status, run_text};
+
+use crate::errors::CommandError;
+use std::alloc::{AllocError, Global};
 
 /// What goes to standard output and to standard error, and whether the status is 1.
 #[derive(Drop)]
@@ -6,4 +11,55 @@ pub struct Report {
     pub out: String,
     pub err: String,
     pub failed: bool,
+}
+
+impl Report {
+    /// Nothing goes to standard error.
+    pub fn quiet(heap: Global, out: String, failed: bool) -> Report
+        ensures quiet { Quiet result }
+        ensures out { result.out ≡ out }
+        ensures failed { result.failed ≡ failed }
+    {
+        Report {
+            out,
+            err: String::new(heap),
+            failed,
+        }
+    }
+
+    /// What a command says, or the one line on standard error that stands in its place.
+    pub fn of_command(
+        heap: Global,
+        done: Result<Report, CommandError>,
+    ) -> Result<Report, AllocError>
+        requires { IfOk done Quiet }
+        ensures { IfOk result Whole }
+    {
+        match done {
+            Ok(report) => Ok(report),
+            Err(CommandError::Message(message)) => Ok(Report {
+                out: String::new(heap),
+                err: format!(in heap; "tuchovai: {message}\n")?,
+                failed: true,
+            }),
+            Err(CommandError::NoMemory(error)) => Err(error),
+        }
+    }
+
+    /// The status of the run.
+    pub fn status(&self) -> u8
+        ensures { result ≡ status self.now }
+    {
+        u8::from(self.failed)
+    }
+
+    /// How a run with these words is told: the words, what went out, and the status.
+    pub fn told(&self, heap: Global, words: &str) -> Result<String, AllocError>
+        ensures { IfOk result (λ text. string_bytes text ≡ run_text words.now self.now) }
+    {
+        let out = self.out.as_str();
+        let err = self.err.as_str();
+        let status = self.status();
+        format!(in heap; "$ tuchovai {words}\n{out}{err}status {status}\n")
+    }
 }

@@ -11,11 +11,11 @@ use card_writer::write_card;
 use classify::classify;
 use marks::{LinkOptions, OutputFormat};
 use row_source::RowSource;
-use shapes::{SHAPES, Shape, rows_of, shape_name};
+use shapes::{SHAPES, Shape, rows_of};
 use std::alloc::Global;
 use std::env;
 use std::time::Instant;
-use tally::{count_all, tally_line};
+use tally::Tally;
 
 const OPTIONS: LinkOptions = LinkOptions {
     format: OutputFormat::Esm,
@@ -34,28 +34,21 @@ fn card_of(heap: Global, shape: Shape) -> anyhow::Result<Vec<u8>> {
         .saturating_add(modules.len().saturating_mul(24))
         .saturating_add(records.len().saturating_mul(18));
     let mut image = vec![in heap; 0u8; size]?;
-    match write_card(&source, image.as_mut_slice()) {
-        Ok(_) => Ok(image),
-        Err(_) => Err(anyhow!("not written")),
-    }
+    write_card(&source, image.as_mut_slice()).map_err(|_| anyhow!("not written"))?;
+    Ok(image)
 }
 
 fn run_shape(rt: &HostRuntime, shape: Shape, timed: bool) -> anyhow::Result<()> {
     let heap = rt.alloc();
     let image = card_of(heap, shape)?;
-    if check_card(image.as_slice()).is_err() {
-        return Err(anyhow!("a card that was written is refused"));
-    }
+    check_card(image.as_slice()).map_err(|_| anyhow!("a card that was written is refused"))?;
     let source = CardSource::open(image.as_slice());
     let start = Instant::now(rt)?;
-    let Ok(done) = classify(heap, &source, OPTIONS) else {
-        return Err(anyhow!("a lawful source is refused"));
-    };
+    let done = classify(heap, &source, OPTIONS).map_err(|_| anyhow!("a lawful source is refused"))?;
     let taken = start.elapsed(rt)?;
-    let name = shape_name(shape);
     let bytes = image.len();
-    let line = tally_line(heap, &count_all(&done))?;
-    println!(rt; "full-size shape={name} bytes={bytes} {line}")?;
+    let tally = Tally::of(&done);
+    println!(rt; "full-size shape={shape} bytes={bytes} {tally}")?;
     if timed {
         let micros = taken.as_micros();
         println!(rt; "  {micros} microseconds")?;
@@ -64,12 +57,7 @@ fn run_shape(rt: &HostRuntime, shape: Shape, timed: bool) -> anyhow::Result<()> 
 }
 
 fn main(rt: HostRuntime) -> anyhow::Result<()> {
-    let mut timed = false;
-    for word in env::args(&rt)? {
-        if word.as_str() == "time" {
-            timed = true;
-        }
-    }
+    let timed = env::args(&rt)?.any(|word| word.as_str() == "time");
     for shape in SHAPES {
         run_shape(&rt, shape, timed)?;
     }

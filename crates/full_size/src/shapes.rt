@@ -2,6 +2,7 @@
 use row_source::ModuleRow;
 use source::{ExportsKind, ImportKind, ImportRecord, Module, NormalModule, Span};
 use std::alloc::{AllocError, Global};
+use std::fmt;
 
 const MODULES: u32 = 4096;
 
@@ -27,13 +28,15 @@ pub const SHAPES: [Shape; 5] = [
     Shape::Stars,
 ];
 
-pub fn shape_name(shape: Shape) -> &'static str {
-    match shape {
-        Shape::Random => "random",
-        Shape::Chain => "chain",
-        Shape::ChainBack => "chain-back",
-        Shape::Circle => "circle",
-        Shape::Stars => "stars",
+impl fmt::Display for Shape {
+    fn fmt<W: fmt::Write>(&self, f: &mut fmt::Formatter<W>) -> fmt::Result {
+        f.write_str(match self {
+            Shape::Random => "random",
+            Shape::Chain => "chain",
+            Shape::ChainBack => "chain-back",
+            Shape::Circle => "circle",
+            Shape::Stars => "stars",
+        })
     }
 }
 
@@ -156,10 +159,7 @@ fn add_records(
 
 // An external module has no records, and neither has the runtime.
 fn has_records(m: u32, described: Module) -> bool {
-    match described {
-        Module::External => false,
-        Module::Normal(_) => m > 0,
-    }
+    m > 0 && described != Module::External
 }
 
 // No list here has 2^32 rows.

@@ -1,11 +1,10 @@
--- The laws of joining, and one step of a loop that joins what rows come to. Assumes nothing.
-use Rattle.std.proofs.Common.{◌≡◌, ℕ, ◌+◌, ◌<◌, ◌≤◌, Bool, true, false, ◌||◌, List, length, get_or, drop, Some, None, Option, sym, refl, ap, ◌∙◌}
+-- The laws of joining, and a fold that joins what rows come to. Assumes nothing.
+use Rattle.std.proofs.Common.{◌≡◌, Bool, false, ◌||◌, List, [], ◌∷◌, ◌++◌, Some, None, Option, sym, refl, ap, ◌∙◌}
 use mathlib.Core.Bool.{or_assoc, or_comm, or_self}
-use Rattle.std.proofs.lemmas.List.{at_drop_more, at_drop_all}
 use Rattle.spread.specs.declared.interop_use.InteropUse.{InteropUse}
 use Rattle.spread.specs.Kinds.{no_use, use_join}
 use Rattle.spread.proofs.Order.{Lattice, zero_below}
-use Rattle.interop.specs.Joins.{all_uses, any}
+use Rattle.interop.specs.Joins.{joined, all_uses, any}
 
 pub any_laws : Lattice false ◌||◌
 any_laws = record { assoc = or_assoc; comm = or_comm; idem = or_self; left = λ x. refl }
@@ -35,32 +34,12 @@ use_idem (Some a) = rw (or_self a.node, or_self a.non_node)
 pub use_laws : Lattice no_use use_join
 use_laws = record { assoc = use_assoc; comm = use_comm; idem = use_idem; left = λ x. refl }
 
--- a loop that stops at the first row that passes, whose invariant is: what is left decides
-module _ {Row : Type 0} (test : Row → Bool) (rows : List Row) (i : ℕ) (d : Row) (h : i < length rows) where
-  any_step : any test (drop i rows) ≡ (test (get_or rows i d) || any test (drop (i + 1) rows))
-  any_step = at_drop_more (any test) rows i d h
+-- whether some row passes, as a join
+pub any_joined : {Row : Type 0} (test : Row → Bool) (rows : List Row) → any test rows ≡ joined false ◌||◌ test rows
+any_joined test [] = refl
+any_joined test (row ∷ rows) = ap (λ (b : Bool). test row || b) (any_joined test rows)
 
-  pub any_here : test (get_or rows i d) ≡ true → any test (drop i rows) ≡ true
-  any_here e = any_step ∙ ap (λ (b : Bool). b || any test (drop (i + 1) rows)) e
-
-  pub any_passed : test (get_or rows i d) ≡ false → any test (drop i rows) ≡ any test (drop (i + 1) rows)
-  any_passed e = any_step ∙ ap (λ (b : Bool). b || any test (drop (i + 1) rows)) e
-
-pub any_done : {Row : Type 0} (test : Row → Bool) (rows : List Row) (i : ℕ) → length rows ≤ i → any test (drop i rows) ≡ false
-any_done test rows i h = at_drop_all (any test) rows i h
-
--- a loop over all rows, whose invariant is: what was found, with what is left, is the answer
-abbrev pub AllWith : {Row : Type 0} → (Row → Option InteropUse) → List Row → ℕ → Option InteropUse → Type 0
-AllWith of rows i found = use_join found (all_uses of (drop i rows)) ≡ all_uses of rows
-
-module _ {Row : Type 0} (of : Row → Option InteropUse) (rows : List Row) (i : ℕ) (found : Option InteropUse) (so_far : AllWith of rows i found) where
-  pub all_more : (d : Row) (more new : Option InteropUse) → i < length rows → more ≡ of (get_or rows i d) → new ≡ use_join found more → AllWith of rows (i + 1) new
-  all_more d more new h e is =
-      ap (λ (u : Option InteropUse). use_join u (all_uses of (drop (i + 1) rows))) is
-      ∙ use_assoc found more (all_uses of (drop (i + 1) rows))
-      ∙ ap (λ (u : Option InteropUse). use_join found (use_join u (all_uses of (drop (i + 1) rows)))) e
-      ∙ ap (use_join found) (sym (at_drop_more (all_uses of) rows i d h))
-      ∙ so_far
-
-  pub all_done : length rows ≤ i → found ≡ all_uses of rows
-  all_done h = sym (zero_below use_laws found) ∙ ap (use_join found) (sym (at_drop_all (all_uses of) rows i h)) ∙ so_far
+-- one more row, as at a step of a fold that joins what each row comes to
+pub all_uses_more : {Row : Type 0} (of : Row → Option InteropUse) (rows : List Row) (row : Row) → all_uses of (rows ++ (row ∷ [])) ≡ use_join (all_uses of rows) (of row)
+all_uses_more of [] row = zero_below use_laws (of row)
+all_uses_more of (x ∷ rows) row = ap (use_join (of x)) (all_uses_more of rows row) ∙ sym (use_assoc (of x) (all_uses of rows) (of row))

@@ -1,4 +1,3 @@
 pub mod Joins
-pub mod Zeros
 pub mod Orders
 pub mod Tells

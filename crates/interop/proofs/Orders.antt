@@ -15,7 +15,7 @@ use Rattle.interop.specs.Checks.{past_source, observers_verdict, imports_verdict
 use Rattle.interop.specs.Interop.{observed, written, node_observer, node_importer, recorded_use_of, recorded_use_answer, modes_answer, reader_answer}
 use Rattle.interop.specs.Joins.{joined, all_uses, any}
 use Rattle.interop.specs.Orders.{SameRows, given, OfRows, OfBothRows}
-use Rattle.interop.proofs.Joins.{any_laws, use_laws}
+use Rattle.interop.proofs.Joins.{any_laws, use_laws, any_joined}
 
 module _ {Row Fact : Type 0} {least : Fact} {join : Fact → Fact → Fact} (laws : Lattice least join) (of : Row → Fact) where
   -- the join covers each row, and is covered by what covers each
@@ -34,6 +34,9 @@ module _ {Row Fact : Type 0} {least : Fact} {join : Fact → Fact → Fact} (law
       (covered rows (joined least join of others) (λ row m. covers others row ((same row).0 m)))
       (covered others (joined least join of rows) (λ row m. covers rows row ((same row).1 m)))
 
+same_any : {Row : Type 0} (test : Row → Bool) (rows others : List Row) → SameRows rows others → any test rows ≡ any test others
+same_any test rows others same = any_joined test rows ∙ same_joined any_laws test rows others same ∙ sym (any_joined test others)
+
 -- a check of every row passes where no row is bad
 each_passed : {Row : Type 0} (bad : Row → Bool) (found : ℕ → Fault) (i : ℕ) (rows : List Row) → is_ok (each (λ k row. refuse_if (bad row) (found k)) i rows) ≡ not (any bad rows)
 each_passed bad found i [] = refl
@@ -48,7 +51,7 @@ both_passed (Ok u) b = refl
 both_passed (Err f) b = refl
 
 same_each : {Row : Type 0} (bad : Row → Bool) (found : ℕ → Fault) (rows others : List Row) → SameRows rows others → is_ok (each (λ k row. refuse_if (bad row) (found k)) 0 rows) ≡ is_ok (each (λ k row. refuse_if (bad row) (found k)) 0 others)
-same_each bad found rows others same = each_passed bad found 0 rows ∙ ap not (same_joined any_laws bad rows others same) ∙ sym (each_passed bad found 0 others)
+same_each bad found rows others same = each_passed bad found 0 rows ∙ ap not (same_any bad rows others same) ∙ sym (each_passed bad found 0 others)
 
 same_given : {A : Type 0} (v u : Verdict) (a b : A) → is_ok v ≡ is_ok u → a ≡ b → given (answer v a) ≡ given (answer u b)
 same_given (Ok x) (Ok y) a b e is = ap Some is
@@ -86,5 +89,5 @@ module _ (w : Meaning) where
     pub reader_of_rows : OfBothRows (reader_answer w chunks namespace chunk)
     reader_of_rows observers others imports more o i =
         same_given (rows_verdict w observers imports) (rows_verdict w others more) _ _ (same_rows observers others imports more o i)
-        (ap (λ (b : Bool). b || any (node_importer w) imports) (same_joined any_laws (node_observer w chunks namespace chunk) observers others o)
-        ∙ ap (λ (b : Bool). any (node_observer w chunks namespace chunk) others || b) (same_joined any_laws (node_importer w) imports more i))
+        (ap (λ (b : Bool). b || any (node_importer w) imports) (same_any (node_observer w chunks namespace chunk) observers others o)
+        ∙ ap (λ (b : Bool). any (node_observer w chunks namespace chunk) others || b) (same_any (node_importer w) imports more i))

@@ -1,6 +1,6 @@
 // Where modules ended up.
 ghost use Rattle.std.specs.Prelude.{◌≡◌};
-ghost use Rattle.interop.specs.Chunks.{is_removed, live_chunk};
+ghost use Rattle.interop.specs.Chunks.{live_chunk};
 
 /// The chunk of each module or none, and the chunks that were removed after that. A module past the end of the list
 /// has none.
@@ -18,28 +18,12 @@ impl<'a> ChunkAssignments<'a> {
         ChunkAssignments { assigned, removed }
     }
 
-    fn is_removed(self, chunk: u32) -> bool
-        ensures { result ≡ is_removed self.entry.removed.now chunk }
-    {
-        for removed in self.removed {
-            if *removed == chunk {
-                return true;
-            }
-        }
-        false
-    }
-
     /// The chunk that the module is assigned to, unless that was removed: a removed chunk is not written.
     pub fn live_chunk(self, m: u32) -> Option<u32>
         ensures { result ≡ live_chunk self.entry m }
     {
-        if m as usize >= self.assigned.len() {
-            return None;
-        }
-        let Some(chunk) = self.assigned[m as usize] else {
-            return None;
-        };
-        if self.is_removed(chunk) {
+        let chunk = (*self.assigned.get(m as usize)?)?;
+        if self.removed.contains(&chunk) {
             return None;
         }
         Some(chunk)

@@ -7,5 +7,5 @@ mod external_import_interop;
 mod rows;
 
 pub use chunk_assignments::ChunkAssignments;
-pub use external_import_interop::{modes, reader, recorded_use};
+pub use external_import_interop::Question;
 pub use rows::{ImportRow, ObserverRow, Specifier};

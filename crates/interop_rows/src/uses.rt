@@ -1,23 +1,26 @@
-// The words for a use.
+// The words for a use: no impl of `Worded`, since neither that trait nor the type is this crate's.
 ghost use Rattle.std.specs.Prelude.{◌≡◌};
 ghost use Rattle.interop_rows.specs.Uses.{use_word, one_use_word};
 ghost use Rattle.table_words.specs.Words.{Named};
 
 use spread::InteropUse;
 
-/// The word for a use, or for none.
-pub fn use_word(uses: Option<InteropUse>) -> &'static str
-    ensures { result.now ≡ use_word uses }
+fn one_use_word(uses: InteropUse) -> &'static str
+    ensures { result.now ≡ one_use_word uses }
 {
-    let Some(uses) = uses else {
-        return "none";
-    };
     match (uses.node, uses.non_node) {
         (false, false) => "neither",
         (true, false) => "node",
         (false, true) => "other",
         (true, true) => "node,other",
     }
+}
+
+/// The word for a use, or for none.
+pub fn use_word(uses: Option<InteropUse>) -> &'static str
+    ensures { result.now ≡ use_word uses }
+{
+    uses.map_or("none", one_use_word)
 }
 
 /// The use that a word says.

@@ -3,10 +3,8 @@
 
 #[cfg(test)]
 mod tests {
-    use faults::{Fault, Layer, Place, Refusal};
-    use interop::{
-        ChunkAssignments, ImportRow, ObserverRow, Specifier, modes, reader, recorded_use,
-    };
+    use faults::{Fault, Layer, Refusal};
+    use interop::{ChunkAssignments, ImportRow, ObserverRow, Question, Specifier};
     use row_source::{ModuleRow, RowSource};
     use source::{ExportsKind, Module, NormalModule, Span};
     use spread::InteropUse;
@@ -59,10 +57,24 @@ mod tests {
     }
 
     fn past_source(row: usize) -> Fault {
-        Fault {
-            refusal: Refusal::RowPastSource,
-            layer: Layer::Interop,
-            place: Place { at: row, record: 0 },
+        Refusal::RowPastSource.found_by(Layer::Interop, row, 0)
+    }
+
+    fn ask<'a>(
+        source: &'a RowSource<'a>,
+        chunks: ChunkAssignments<'a>,
+        observers: &'a [ObserverRow],
+        imports: &'a [ImportRow],
+        namespace: u32,
+        chunk: u32,
+    ) -> Question<'a, RowSource<'a>> {
+        Question {
+            source,
+            chunks,
+            observers,
+            imports,
+            namespace,
+            chunk,
         }
     }
 
@@ -76,15 +88,21 @@ mod tests {
             observer(1, used(true, false)),
         ];
         assert_eq!(rt;
-            recorded_use(&source, chunks, &rows, WINCH, 0),
+            ask(&source, chunks, &rows, &[], WINCH, 0).recorded_use(),
             Ok(Some(used(false, true)))
         );
         assert_eq!(rt;
-            recorded_use(&source, chunks, &rows, WINCH, 5),
+            ask(&source, chunks, &rows, &[], WINCH, 5).recorded_use(),
             Ok(Some(used(true, false)))
         );
-        assert_eq!(rt; recorded_use(&source, chunks, &rows, WINCH, 6), Ok(None));
-        assert_eq!(rt; recorded_use(&source, chunks, &rows, 8, 0), Ok(None));
+        assert_eq!(rt;
+            ask(&source, chunks, &rows, &[], WINCH, 6).recorded_use(),
+            Ok(None)
+        );
+        assert_eq!(rt;
+            ask(&source, chunks, &rows, &[], 8, 0).recorded_use(),
+            Ok(None)
+        );
     }
 
     // Module 0 has no chunk, the chunk of 1 was removed, and 3 is past the end of the list.
@@ -97,17 +115,17 @@ mod tests {
         assert_eq!(rt; chunks.live_chunk(3), None);
         let unassigned = [observer(0, used(false, true))];
         assert_eq!(rt;
-            recorded_use(&source, chunks, &unassigned, WINCH, 9),
+            ask(&source, chunks, &unassigned, &[], WINCH, 9).recorded_use(),
             Ok(Some(used(false, true)))
         );
         let removed = [observer(1, used(true, false))];
         assert_eq!(rt;
-            recorded_use(&source, chunks, &removed, WINCH, 9),
+            ask(&source, chunks, &removed, &[], WINCH, 9).recorded_use(),
             Ok(Some(used(true, false)))
         );
         let past = [observer(3, used(false, false))];
         assert_eq!(rt;
-            recorded_use(&source, chunks, &past, WINCH, 9),
+            ask(&source, chunks, &past, &[], WINCH, 9).recorded_use(),
             Ok(Some(used(false, false)))
         );
     }
@@ -119,17 +137,17 @@ mod tests {
         let chunks = ChunkAssignments::new(&[], &[]);
         let star = [import(0, Specifier::Namespace)];
         assert_eq!(rt;
-            modes(&source, chunks, &[], &star, WINCH, 0),
+            ask(&source, chunks, &[], &star, WINCH, 0).modes(),
             Ok(Some(used(false, true)))
         );
         let default = [import(1, Specifier::Default)];
         assert_eq!(rt;
-            modes(&source, chunks, &[], &default, WINCH, 0),
+            ask(&source, chunks, &[], &default, WINCH, 0).modes(),
             Ok(Some(used(true, false)))
         );
         let external = [import(2, Specifier::Default)];
         assert_eq!(rt;
-            modes(&source, chunks, &[], &external, WINCH, 0),
+            ask(&source, chunks, &[], &external, WINCH, 0).modes(),
             Ok(Some(used(false, true)))
         );
     }
@@ -140,9 +158,18 @@ mod tests {
         let source = RowSource::open(0, &modules, &[]);
         let chunks = ChunkAssignments::new(&[], &[]);
         let named = [import(1, Specifier::Named(3))];
-        assert_eq!(rt; recorded_use(&source, chunks, &[], WINCH, 0), Ok(None));
-        assert_eq!(rt; modes(&source, chunks, &[], &named, WINCH, 0), Ok(None));
-        assert_eq!(rt; reader(&source, chunks, &[], &named, WINCH, 0), Ok(false));
+        assert_eq!(rt;
+            ask(&source, chunks, &[], &[], WINCH, 0).recorded_use(),
+            Ok(None)
+        );
+        assert_eq!(rt;
+            ask(&source, chunks, &[], &named, WINCH, 0).modes(),
+            Ok(None)
+        );
+        assert_eq!(rt;
+            ask(&source, chunks, &[], &named, WINCH, 0).reader(),
+            Ok(false)
+        );
     }
 
     #[test]
@@ -153,15 +180,15 @@ mod tests {
         let seen = observer(0, used(true, false));
         let star = import(3, Specifier::Namespace);
         assert_eq!(rt;
-            modes(&source, chunks, &[seen], &[star], WINCH, 0),
+            ask(&source, chunks, &[seen], &[star], WINCH, 0).modes(),
             Ok(Some(used(true, true)))
         );
         assert_eq!(rt;
-            modes(&source, chunks, &[seen, seen], &[star, star], WINCH, 0),
+            ask(&source, chunks, &[seen, seen], &[star, star], WINCH, 0).modes(),
             Ok(Some(used(true, true)))
         );
         assert_eq!(rt;
-            reader(&source, chunks, &[seen, seen], &[star, star], WINCH, 0),
+            ask(&source, chunks, &[seen, seen], &[star, star], WINCH, 0).reader(),
             Ok(false)
         );
     }
@@ -173,11 +200,20 @@ mod tests {
         let source = RowSource::open(0, &modules, &[]);
         let chunks = ChunkAssignments::new(&[], &[]);
         let other = [observer(0, used(true, false))];
-        assert_eq!(rt; reader(&source, chunks, &other, &[], WINCH, 0), Ok(false));
+        assert_eq!(rt;
+            ask(&source, chunks, &other, &[], WINCH, 0).reader(),
+            Ok(false)
+        );
         let node = [observer(1, used(false, true))];
-        assert_eq!(rt; reader(&source, chunks, &node, &[], WINCH, 0), Ok(true));
+        assert_eq!(rt;
+            ask(&source, chunks, &node, &[], WINCH, 0).reader(),
+            Ok(true)
+        );
         let star = [import(1, Specifier::Namespace)];
-        assert_eq!(rt; reader(&source, chunks, &[], &star, WINCH, 0), Ok(true));
+        assert_eq!(rt;
+            ask(&source, chunks, &[], &star, WINCH, 0).reader(),
+            Ok(true)
+        );
     }
 
     #[test]
@@ -189,19 +225,19 @@ mod tests {
         let past = observer(4, used(false, false));
         let named = [import(9, Specifier::Named(0))];
         assert_eq!(rt;
-            recorded_use(&source, chunks, &[last, past], 0, 0),
+            ask(&source, chunks, &[last, past], &[], 0, 0).recorded_use(),
             Err(past_source(1))
         );
         assert_eq!(rt;
-            modes(&source, chunks, &[last, past], &named, 0, 0),
+            ask(&source, chunks, &[last, past], &named, 0, 0).modes(),
             Err(past_source(1))
         );
         assert_eq!(rt;
-            modes(&source, chunks, &[last], &named, 0, 0),
+            ask(&source, chunks, &[last], &named, 0, 0).modes(),
             Err(past_source(0))
         );
         assert_eq!(rt;
-            reader(&source, chunks, &[last], &named, 0, 0),
+            ask(&source, chunks, &[last], &named, 0, 0).reader(),
             Err(past_source(0))
         );
     }

@@ -2,48 +2,64 @@
 ghost use Rattle.std.specs.Prelude.{IfOk};
 ghost use Rattle.commands.specs.Reports.{Quiet};
 
-use card::{CardSource, check_card};
-use commands::{CommandError, Contents, Report, fault_words, quiet, read_contents};
+use commands::{CommandError, Refused, Report, in_file, read_contents};
 use external_layer::ExternalLayer;
 use faults::Fault;
 use link_report::{dot_text, link_report};
 use link_words::{LinkWords, WordsError, read_link_words, rule_words};
-use row_source::{RowSource, check_rows};
-use run_list::{ListError, run_list};
+use run_list::{ListError, ListRun, run_list};
 use source::ModuleSource;
 use std::alloc::{AllocError, Global};
+use std::fmt;
 
 const USAGE: &str =
     "FILE [--format=esm|cjs|iife|umd] [--no-splitting] [--strict-order] [--manual-groups] [--profiler-names] [--external=N].. [--calls=kinds,star,wrap,await,entries]";
 
-/// How a classified source is told.
+/// How a classified source is told. The source is of another type where modules were made external, so that no closure
+/// can stand for a case.
 #[derive(Clone, Copy)]
 pub enum Told {
     Lines,
     Graph,
 }
 
-// The number, layer and place of what was refused, and what the rule says.
-fn refusal(heap: Global, path: &str, fault: &Fault) -> Result<CommandError, AllocError> {
-    let words = fault_words(heap, fault)?;
-    let rule = rule_words(fault.refusal);
-    Ok(CommandError::Message(format!(in heap; "{path}: refused {words}: {rule}")?))
+// A refusal, and what its rule says.
+#[derive(Clone, Copy)]
+struct Explained(Fault);
+
+impl fmt::Display for Explained {
+    fn fmt<W: fmt::Write>(&self, f: &mut fmt::Formatter<W>) -> fmt::Result {
+        let refused = Refused(self.0);
+        let rule = rule_words(self.0.refusal);
+        write!(f, "{refused}: {rule}")
+    }
 }
 
 // The words of the command, or the first that is not understood.
 fn read_words(heap: Global, command: &str, words: &[String]) -> Result<LinkWords, CommandError> {
-    match read_link_words(heap, words) {
-        Ok(asked) => Ok(asked),
-        Err(WordsError::NoMemory) => Err(CommandError::NoMemory),
-        Err(WordsError::BadWord(i)) => {
-            let word = match words.get(i) {
-                Some(word) => word.as_str(),
-                None => "",
-            };
-            Err(CommandError::Message(format!(in heap;
-                "not understood: {word}; usage: tuchovai {command} {USAGE}"
-            )?))
+    read_link_words(heap, words).try_map_err(|error| -> Result<CommandError, CommandError> {
+        match error {
+            WordsError::NoMemory => Ok(AllocError.into()),
+            WordsError::BadWord(i) => {
+                let word = words.get(i).map_or("", |word| word.as_str());
+                Ok(format!(in heap;
+                    "not understood: {word}; usage: tuchovai {command} {USAGE}"
+                )?.into())
+            }
         }
+    })
+}
+
+// The calls that the words ask for, all of them accepted.
+fn accepted_run<S: ModuleSource>(
+    heap: Global,
+    source: &S,
+    asked: &LinkWords,
+) -> Result<ListRun, ListError> {
+    let done = run_list(heap, source, asked.options, asked.passes.as_slice())?;
+    match done.refused_pass() {
+        Some(fault) => Err(ListError::Refused(fault)),
+        None => Ok(done),
     }
 }
 
@@ -59,19 +75,13 @@ fn tell<S: ModuleSource>(
     match told {
         Told::Lines => {
             let report = link_report(heap, source, asked)?;
-            Ok(quiet(heap, report.text, report.refused))
+            Ok(Report::quiet(heap, report.text, report.refused))
         }
-        Told::Graph => {
-            let done = match run_list(heap, source, asked.options, asked.passes.as_slice()) {
-                Ok(done) => done,
-                Err(ListError::Memory) => return Err(CommandError::NoMemory),
-                Err(ListError::Refused(fault)) => return Err(refusal(heap, path, &fault)?),
-            };
-            if let Some(fault) = done.refused_pass() {
-                return Err(refusal(heap, path, &fault)?);
-            }
-            Ok(quiet(heap, dot_text(heap, source, &done)?, false))
-        }
+        Told::Graph => match accepted_run(heap, source, asked) {
+            Ok(done) => Ok(Report::quiet(heap, dot_text(heap, source, &done)?, false)),
+            Err(ListError::Memory) => Err(AllocError.into()),
+            Err(ListError::Refused(fault)) => in_file(heap, path, Err(Explained(fault))),
+        },
     }
 }
 
@@ -91,13 +101,15 @@ fn tell_layered<S: ModuleSource>(
     let mut layer = ExternalLayer::new(source);
     for number in asked.externals.as_slice() {
         if *number as usize >= source.module_count() {
-            return Err(CommandError::Message(format!(in heap;
+            return Err(format!(in heap;
                 "{path}: there is no module {number} to make external"
-            )?));
+            )?.into());
         }
-        if let Err(fault) = layer.hold(*number) {
-            return Err(refusal(heap, path, &fault)?);
-        }
+        in_file(
+            heap,
+            path,
+            layer.hold(*number).map_err(|fault| Explained(fault)),
+        )?;
     }
     tell(heap, path, &layer, asked, told)
 }
@@ -114,31 +126,16 @@ pub fn link(
 {
     let heap = rt.alloc();
     let asked = read_words(heap, command, words)?;
-    match read_contents(rt, path)? {
-        Contents::Rows(table) => {
-            let (modules, records) = (table.modules.as_slice(), table.records.as_slice());
-            if let Err(fault) = check_rows(modules, records) {
-                return Err(refusal(heap, path, &fault)?);
-            }
-            let source = RowSource::open(table.runtime, modules, records);
-            tell_layered(heap, path, &source, &asked, told)
-        }
-        Contents::Image(image) => {
-            if let Err(fault) = check_card(image.as_slice()) {
-                return Err(refusal(heap, path, &fault)?);
-            }
-            tell_layered(
-                heap,
-                path,
-                &CardSource::open(image.as_slice()),
-                &asked,
-                told,
-            )
-        }
-    }
+    let contents = read_contents(rt, path)?;
+    let source = in_file(
+        heap,
+        path,
+        contents.checked().map_err(|fault| Explained(fault)),
+    )?;
+    tell_layered(heap, path, &source, &asked, told)
 }
 
 /// How the command is called.
 pub fn link_usage(heap: Global, command: &str) -> Result<CommandError, AllocError> {
-    Ok(CommandError::Message(format!(in heap; "usage: tuchovai {command} {USAGE}")?))
+    Ok(format!(in heap; "usage: tuchovai {command} {USAGE}")?.into())
 }

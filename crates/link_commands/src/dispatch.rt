@@ -11,46 +11,25 @@ use std::alloc::AllocError;
 pub fn run(rt: &HostRuntime, words: &[String]) -> Result<Report, AllocError>
     ensures { IfOk result Whole }
 {
-    match words.first() {
-        Some(command) => {
-            if command.as_str() == "link" || command.as_str() == "dot" {
-                run_here(rt, words)
-            } else {
-                run_other(rt, words)
-            }
-        }
-        None => run_other(rt, words),
+    match words.first().map(|command| command.as_str()) {
+        Some("link") => run_here(rt, words, Told::Lines),
+        Some("dot") => run_here(rt, words, Told::Graph),
+        _ => run_other(rt, words),
     }
 }
 
-fn run_here(rt: &HostRuntime, words: &[String]) -> Result<Report, AllocError>
+fn run_here(rt: &HostRuntime, words: &[String], told: Told) -> Result<Report, AllocError>
     ensures { IfOk result Whole }
 {
-    let heap = rt.alloc();
-    match run_command(rt, words) {
-        Ok(report) => Ok(report),
-        Err(CommandError::Message(message)) => Ok(Report {
-            out: String::new(heap),
-            err: format!(in heap; "tuchovai: {message}\n")?,
-            failed: true,
-        }),
-        Err(CommandError::NoMemory) => Err(AllocError),
-    }
+    Report::of_command(rt.alloc(), run_command(rt, words, told))
 }
 
-fn run_command(rt: &HostRuntime, words: &[String]) -> Result<Report, CommandError>
+fn run_command(rt: &HostRuntime, words: &[String], told: Told) -> Result<Report, CommandError>
     ensures { IfOk result Quiet }
 {
     let heap = rt.alloc();
     match words {
-        [command, path, options @ ..] => {
-            let told = if command.as_str() == "dot" {
-                Told::Graph
-            } else {
-                Told::Lines
-            };
-            link(rt, command.as_str(), path.as_str(), options, told)
-        }
+        [command, path, options @ ..] => link(rt, command.as_str(), path.as_str(), options, told),
         [command] => Err(link_usage(heap, command.as_str())?),
         [] => Err(link_usage(heap, "link")?),
     }

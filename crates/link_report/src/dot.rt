@@ -3,6 +3,7 @@ use marks::{Mark, MarkRow, WrapKind};
 use run_list::ListRun;
 use source::{ExportsKind, ImportKind, ImportRecord, Module, ModuleSource};
 use std::alloc::{AllocError, Global};
+use std::fmt::Write;
 
 const HEAD: &str = "digraph modules {
   rankdir=LR;
@@ -29,25 +30,24 @@ fn shape(wrap: WrapKind) -> &'static str {
     }
 }
 
-fn is_entry(described: Module) -> bool {
-    match described {
-        Module::External => false,
-        Module::Normal(normal) => normal.entry,
-    }
-}
-
 // A module: what else is settled of it stands under its number, and one that waits has a second line round it.
-fn node(heap: Global, m: usize, described: Module, row: MarkRow) -> Result<String, AllocError> {
+fn write_node(
+    text: &mut String,
+    m: usize,
+    described: Module,
+    row: MarkRow,
+) -> Result<(), AllocError> {
     let shape = shape(Mark::read(row).wrap());
     let colour = colour(described, row.kind);
-    let entry = if is_entry(described) { "\\nentry" } else { "" };
+    let is_entry = matches!(described, Module::Normal(normal) if normal.entry);
+    let entry = if is_entry { "\\nentry" } else { "" };
     let required = if row.required { "\\nrequired" } else { "" };
     let dynamic = if row.dynamic { "\\ndynamic" } else { "" };
     let awaits = if row.awaiting { "\\nawaits" } else { "" };
     let lines = if row.awaiting { 2 } else { 1 };
-    let label = format!(in heap; "{m}{entry}{required}{dynamic}{awaits}")?;
-    format!(in heap;
-        "  m{m} [label=\"{label}\", shape={shape}, fillcolor={colour}, peripheries={lines}];\n"
+    writeln!(
+        text,
+        "  m{m} [label=\"{m}{entry}{required}{dynamic}{awaits}\", shape={shape}, fillcolor={colour}, peripheries={lines}];"
     )
 }
 
@@ -67,19 +67,17 @@ fn style(record: ImportRecord) -> &'static str {
     }
 }
 
-fn arrows<S: ModuleSource>(
-    heap: Global,
+fn write_arrows<S: ModuleSource>(
     text: &mut String,
     source: &S,
     m: usize,
 ) -> Result<(), AllocError> {
     for k in 0..source.record_count(m) {
         let record = source.record(m, k);
-        let Some(t) = record.target else {
-            continue;
-        };
-        let style = style(record);
-        text.push_str(format!(in heap; "  m{m} -> m{t} [{style}];\n")?.as_str())?;
+        if let Some(t) = record.target {
+            let style = style(record);
+            writeln!(text, "  m{m} -> m{t} [{style}];")?;
+        }
     }
     Ok(())
 }
@@ -92,11 +90,11 @@ pub fn dot_text<S: ModuleSource>(
 ) -> Result<String, AllocError> {
     let mut text = String::from_str(heap, HEAD)?;
     for (m, row) in done.marks.as_slice().iter().enumerate() {
-        text.push_str(node(heap, m, source.module(m), *row)?.as_str())?;
+        write_node(&mut text, m, source.module(m), *row)?;
     }
     for m in 0..done.marks.len() {
-        arrows(heap, &mut text, source, m)?;
+        write_arrows(&mut text, source, m)?;
     }
-    text.push_str("}\n")?;
+    writeln!(text, "}}")?;
     Ok(text)
 }

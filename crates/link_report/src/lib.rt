@@ -5,4 +5,4 @@ mod dot;
 mod lines;
 
 pub use dot::dot_text;
-pub use lines::{LinkReport, link_report, refused_call};
+pub use lines::{LinkReport, link_report};

@@ -7,13 +7,6 @@ use source::ModuleSource;
 use spread::{Arrow, EntrySet, YesNo};
 use std::alloc::{AllocError, Global};
 
-fn none_written(answer: Result<(), Fault>) -> Result<usize, Fault> {
-    match answer {
-        Ok(()) => Ok(0),
-        Err(fault) => Err(fault),
-    }
-}
-
 fn make_pass<S: ModuleSource>(
     heap: Global,
     desk: &mut Desk,
@@ -28,31 +21,27 @@ fn make_pass<S: ModuleSource>(
     let mut flags = vec![in heap; YesNo(true); asked.places]?;
     let mut arrows = vec![in heap; Arrow { from: 9, to: 9 }; asked.arrows]?;
     match pass {
-        Pass::Kinds => Ok(none_written(desk.link.kinds(source, marks))),
-        Pass::Star => Ok(none_written(
-            desk.link.star(
-                source,
-                marks,
-                facts.as_mut_slice(),
-                flags.as_mut_slice(),
-                arrows.as_mut_slice(),
-            ),
-        )),
-        Pass::Wrap => Ok(none_written(
-            desk.link.wrap(
-                source,
-                marks,
-                facts.as_mut_slice(),
-                flags.as_mut_slice(),
-                arrows.as_mut_slice(),
-            ),
-        )),
+        Pass::Kinds => Ok(desk.link.kinds(source, marks).map(|()| 0)),
+        Pass::Star => {
+            let (facts, flags) = (facts.as_mut_slice(), flags.as_mut_slice());
+            let answer = desk
+                .link
+                .star(source, marks, facts, flags, arrows.as_mut_slice());
+            Ok(answer.map(|()| 0))
+        }
+        Pass::Wrap => {
+            let (facts, flags) = (facts.as_mut_slice(), flags.as_mut_slice());
+            let answer = desk
+                .link
+                .wrap(source, marks, facts, flags, arrows.as_mut_slice());
+            Ok(answer.map(|()| 0))
+        }
         Pass::Entries => {
             let mut sets = vec![in heap; EntrySet(5); asked.places]?;
-            Ok(none_written(
-                desk.link
-                    .entries(source, marks, sets.as_mut_slice(), arrows.as_mut_slice()),
-            ))
+            let answer = desk
+                .link
+                .entries(source, marks, sets.as_mut_slice(), arrows.as_mut_slice());
+            Ok(answer.map(|()| 0))
         }
         Pass::Await => make_await(heap, desk, source, asked),
     }
@@ -87,7 +76,7 @@ fn make_await<S: ModuleSource>(
     Ok(answer)
 }
 
-/// Makes the call and answers what it answers.
+/// Makes the call and answers what it answers: a refusal is an answer here, and no error of this run.
 pub fn make<S: ModuleSource>(
     heap: Global,
     desk: &mut Desk,
@@ -99,7 +88,8 @@ pub fn make<S: ModuleSource>(
         Name::Begin => {
             let marks = desk.marks.as_mut_slice();
             let n = asked.marks.min(marks.len());
-            Ok(none_written(desk.link.begin(source, desk.options, &mut marks[0..n])))
+            let answer = desk.link.begin(source, desk.options, &mut marks[0..n]);
+            Ok(answer.map(|()| 0))
         }
         Name::Finish => {
             let marks = desk.marks.as_mut_slice();

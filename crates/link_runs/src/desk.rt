@@ -1,10 +1,12 @@
 // What a caller of the link holds.
 use link::Link;
-use link_words::{await_line, mark_line, wrapper_line};
+use link_words::{AwaitLine, MarkLine, WrapperLine};
 use marks::{AwaitRow, Helper, LinkOptions, MarkRow, WrapKind, WrapperRow};
 use row_source::ModuleRow;
 use source::{ExportsKind, Module, Span};
 use std::alloc::{AllocError, Global};
+use std::fmt::Write;
+use table_words::Worded;
 
 #[derive(Drop)]
 pub struct Desk {
@@ -13,7 +15,7 @@ pub struct Desk {
     pub marks: Vec<MarkRow>,
     pub awaits: Vec<AwaitRow>,
     pub wrappers: Vec<WrapperRow>,
-    /// How many rows of each list were written.
+    /// How many rows of each list were written: the lists are lent whole, so that what a call leaves as it was is seen.
     pub await_count: usize,
     pub wrapper_count: usize,
 }
@@ -57,32 +59,41 @@ pub fn new_desk(heap: Global, modules: usize, options: LinkOptions) -> Result<De
 pub fn settled_text(heap: Global, desk: &Desk) -> Result<String, AllocError> {
     let mut text = String::new(heap);
     for (m, row) in desk.marks.as_slice().iter().enumerate() {
-        text.push_str(mark_line(heap, m, Module::External, *row)?.as_str())?;
-        let kind = table_words::exports_word(row.kind);
-        text.push_str(kind)?;
+        let line = MarkLine {
+            m,
+            described: Module::External,
+            row: *row,
+        };
+        let kind = row.kind.word();
+        write!(text, "{line}{kind}")?;
     }
     for row in desk.awaits.as_slice() {
-        text.push_str(await_line(heap, row)?.as_str())?;
+        let line = AwaitLine(*row);
+        write!(text, "{line}")?;
     }
     for row in desk.wrappers.as_slice() {
-        text.push_str(wrapper_line(heap, row)?.as_str())?;
+        let line = WrapperLine(*row);
+        write!(text, "{line}")?;
     }
     Ok(text)
 }
 
 /// The marks of the modules, and the rows that were written.
 pub fn print_desk(rt: &HostRuntime, modules: &[ModuleRow], desk: &Desk) -> anyhow::Result<()> {
-    let heap = rt.alloc();
     for (m, (module, row)) in modules.iter().zip(desk.marks.as_slice()).enumerate() {
-        let line = mark_line(heap, m, module.described, *row)?;
+        let line = MarkLine {
+            m,
+            described: module.described,
+            row: *row,
+        };
         print!(rt; "{line}")?;
     }
     for row in desk.awaits.as_slice().iter().take(desk.await_count) {
-        let line = await_line(heap, row)?;
+        let line = AwaitLine(*row);
         print!(rt; "{line}")?;
     }
     for row in desk.wrappers.as_slice().iter().take(desk.wrapper_count) {
-        let line = wrapper_line(heap, row)?;
+        let line = WrapperLine(*row);
         print!(rt; "{line}")?;
     }
     Ok(())

@@ -34,13 +34,7 @@ fn print_answer(
             } else {
                 "changed"
             };
-            let number = u8::from(fault.refusal);
-            let layer = fault.layer.name();
-            let at = fault.place.at;
-            let record = fault.place.record;
-            println!(rt;
-                "{name} refused number={number} layer={layer} place={at},{record} {kept}"
-            )?;
+            println!(rt; "{name} refused {fault} {kept}")?;
         }
     }
     Ok(())
@@ -66,10 +60,7 @@ fn make_call(
 
 fn read_file(rt: &HostRuntime, name: &str) -> anyhow::Result<Table> {
     let text = fs::read_to_string(rt, name)?;
-    match read_table(rt.alloc(), text.as_str()) {
-        Ok(table) => Ok(table),
-        Err(_) => Err(anyhow!("a table does not read")),
-    }
+    read_table(rt.alloc(), text.as_str()).map_err(|_| anyhow!("a table does not read"))
 }
 
 fn run_calls(

@@ -1,6 +1,6 @@
 // The words of a line: options, and calls with what they are lent.
-use link_words::{pass_word, read_format, read_pass};
-use marks::{LinkOptions, OutputFormat};
+use link_words::{PLAIN_OPTIONS, pass_word, read_format, read_pass};
+use marks::LinkOptions;
 use settled::Pass;
 use std::str::SplitWhitespace;
 use table_words::read_number;
@@ -33,13 +33,7 @@ pub struct Asked {
 }
 
 pub fn read_options(words: SplitWhitespace<'_>) -> Option<LinkOptions> {
-    let mut options = LinkOptions {
-        format: OutputFormat::Esm,
-        splitting_off: false,
-        strict_order: false,
-        manual_groups: false,
-        profiler_names: false,
-    };
+    let mut options = PLAIN_OPTIONS;
     for word in words {
         match word {
             "no-splitting" => options.splitting_off = true,
@@ -56,7 +50,7 @@ fn read_name(word: &str) -> Option<Name> {
     match word {
         "begin" => Some(Name::Begin),
         "finish" => Some(Name::Finish),
-        other => Some(Name::Of(read_pass(other)?)),
+        other => read_pass(other).map(Name::Of),
     }
 }
 

@@ -1,10 +1,10 @@
--- The words for formats, wrappers, flags, passes, kinds and ranks, as their bytes.
+-- The words for formats, wrappers, passes, kinds and ranks, as their bytes.
 --
---   format_word, wrap_word, flag_word, pass_word   one word for each case
+--   format_word, wrap_word, pass_word   one word for each case
 --   option_word, with_option   the word that turns an option on, and the options with it on
 --   kind_word    a module's kind: `external`, or the word for its exports kind
 --   first_word   a first rank, or `none`
-use Rattle.std.specs.Prelude.{ℕ, Bool, true, false, List, Some, None, codes, decimal, Option}
+use Rattle.std.specs.Prelude.{ℕ, true, List, Some, None, codes, decimal, Option}
 use Rattle.source.specs.declared.ExportsKind.{ExportsKind}
 use Rattle.source.specs.declared.Module.{Module}
 use Rattle.source.specs.declared.Module.TheVariants.{External, Normal}
@@ -29,10 +29,6 @@ abbrev pub wrap_word : WrapKind → List ℕ
 wrap_word wrap.None = codes "none"
 wrap_word wrap.Cjs = codes "cjs"
 wrap_word wrap.Esm = codes "esm"
-
-abbrev pub flag_word : Bool → List ℕ
-flag_word true = codes "yes"
-flag_word false = codes "no"
 
 abbrev pub pass_word : Pass → List ℕ
 pass_word Kinds = codes "kinds"

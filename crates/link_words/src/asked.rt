@@ -1,16 +1,25 @@
 // What the words of a link command ask for.
 ghost use Rattle.std.specs.Prelude.{◌≡◌};
-ghost use Rattle.table_words.specs.Words.{Named};
+ghost use Rattle.link_words.specs.declared.asked.WordsError.TheVariants.{NoMemory};
 ghost use Rattle.link_words.specs.Words.{option_word, with_option};
 
 use crate::words::{read_format, read_pass};
 use marks::{LinkOptions, OutputFormat};
 use settled::Pass;
 use std::alloc::{AllocError, AllocFailed, Global};
-use table_words::read_number;
+use table_words::{Worded, read_number};
+
+/// The options of a link where no word turns one on.
+pub const PLAIN_OPTIONS: LinkOptions = LinkOptions {
+    format: OutputFormat::Esm,
+    splitting_off: false,
+    strict_order: false,
+    manual_groups: false,
+    profiler_names: false,
+};
 
 /// An option that is off unless it is named.
-#[derive(Clone, Copy)]
+#[derive(Clone, Copy, PartialEq, Eq, Debug)]
 pub enum LinkSwitch {
     NoSplitting,
     StrictOrder,
@@ -27,40 +36,48 @@ pub struct LinkWords {
 }
 
 /// The first word that does not read, by its place, or want of memory.
-#[derive(Clone, Copy)]
+#[derive(Clone, Copy, PartialEq, Eq, Debug)]
 pub enum WordsError {
     BadWord(usize),
     NoMemory,
 }
 
-// Why one word does not read.
-#[derive(Clone, Copy)]
-enum WordError {
-    Bad,
-    NoMemory,
-}
+impl From<AllocError> for WordsError {
+    ghost from_gives = { λ _ e. e ≡ NoMemory };
 
-impl From<AllocError> for WordError {
-    fn from(_error: AllocError) -> WordError {
-        WordError::NoMemory
+    fn from(_error: AllocError) -> WordsError {
+        WordsError::NoMemory
     }
 }
 
-impl<T: Drop> From<AllocFailed<T>> for WordError {
-    fn from(_error: AllocFailed<T>) -> WordError {
-        WordError::NoMemory
+impl<T: Drop> From<AllocFailed<T>> for WordsError {
+    ghost from_gives = { λ _ e. e ≡ NoMemory };
+
+    fn from(_error: AllocFailed<T>) -> WordsError {
+        WordsError::NoMemory
     }
 }
 
-pub fn read_option(word: &str) -> Option<LinkSwitch>
-    ensures { Named option_word word.now result }
-{
-    match word {
-        "--no-splitting" => Some(LinkSwitch::NoSplitting),
-        "--strict-order" => Some(LinkSwitch::StrictOrder),
-        "--manual-groups" => Some(LinkSwitch::ManualGroups),
-        "--profiler-names" => Some(LinkSwitch::ProfilerNames),
-        _ => None,
+impl Worded for LinkSwitch {
+    ghost word = { option_word };
+
+    fn word(self) -> &'static str {
+        match self {
+            LinkSwitch::NoSplitting => "--no-splitting",
+            LinkSwitch::StrictOrder => "--strict-order",
+            LinkSwitch::ManualGroups => "--manual-groups",
+            LinkSwitch::ProfilerNames => "--profiler-names",
+        }
+    }
+
+    fn from_word(text: &str) -> Option<LinkSwitch> {
+        match text {
+            "--no-splitting" => Some(LinkSwitch::NoSplitting),
+            "--strict-order" => Some(LinkSwitch::StrictOrder),
+            "--manual-groups" => Some(LinkSwitch::ManualGroups),
+            "--profiler-names" => Some(LinkSwitch::ProfilerNames),
+            _ => None,
+        }
     }
 }
 
@@ -68,51 +85,43 @@ pub fn read_option(word: &str) -> Option<LinkSwitch>
 pub fn with_option(options: LinkOptions, switch: LinkSwitch) -> LinkOptions
     ensures { result ≡ with_option options switch }
 {
+    let mut with = options;
     match switch {
-        LinkSwitch::NoSplitting => LinkOptions {
-            splitting_off: true,
-            ..options
-        },
-        LinkSwitch::StrictOrder => LinkOptions {
-            strict_order: true,
-            ..options
-        },
-        LinkSwitch::ManualGroups => LinkOptions {
-            manual_groups: true,
-            ..options
-        },
-        LinkSwitch::ProfilerNames => LinkOptions {
-            profiler_names: true,
-            ..options
-        },
+        LinkSwitch::NoSplitting => with.splitting_off = true,
+        LinkSwitch::StrictOrder => with.strict_order = true,
+        LinkSwitch::ManualGroups => with.manual_groups = true,
+        LinkSwitch::ProfilerNames => with.profiler_names = true,
     }
+    with
 }
 
-// `kinds,star,wrap`, in place of the passes so far.
-fn read_passes(heap: Global, list: &str) -> Result<Vec<Pass>, WordError> {
+// `kinds,star,wrap`.
+fn read_passes(heap: Global, i: usize, list: &str) -> Result<Vec<Pass>, WordsError> {
     let mut passes = Vec::new(heap);
     if !list.is_empty() {
         for word in list.split(',') {
-            passes.push(read_pass(word).ok_or(WordError::Bad)?)?;
+            passes.push(read_pass(word).ok_or(WordsError::BadWord(i))?)?;
         }
     }
     Ok(passes)
 }
 
-fn read_word(heap: Global, asked: &mut LinkWords, word: &str) -> Result<(), WordError> {
-    if let Some(format) = word.strip_prefix("--format=") {
-        asked.options.format = read_format(format).ok_or(WordError::Bad)?;
-    } else if let Some(number) = word.strip_prefix("--external=") {
-        asked
-            .externals
-            .push(read_number(number).ok_or(WordError::Bad)?)?;
-    } else if let Some(list) = word.strip_prefix("--calls=") {
-        asked.passes = read_passes(heap, list)?;
-    } else {
-        let switch = read_option(word).ok_or(WordError::Bad)?;
-        asked.options = with_option(asked.options, switch);
+impl LinkWords {
+    // The word at place i.
+    fn read_word(&mut self, heap: Global, i: usize, word: &str) -> Result<(), WordsError> {
+        let bad = WordsError::BadWord(i);
+        if let Some(format) = word.strip_prefix("--format=") {
+            self.options.format = read_format(format).ok_or(bad)?;
+        } else if let Some(number) = word.strip_prefix("--external=") {
+            self.externals.push(read_number(number).ok_or(bad)?)?;
+        } else if let Some(list) = word.strip_prefix("--calls=") {
+            self.passes = read_passes(heap, i, list)?;
+        } else {
+            let switch = LinkSwitch::from_word(word).ok_or(bad)?;
+            self.options = with_option(self.options, switch);
+        }
+        Ok(())
     }
-    Ok(())
 }
 
 fn every_pass(heap: Global) -> Result<Vec<Pass>, AllocError> {
@@ -129,26 +138,13 @@ fn every_pass(heap: Global) -> Result<Vec<Pass>, AllocError> {
 /// Reads `--format=F`, `--no-splitting`, `--strict-order`, `--manual-groups`, `--profiler-names`, `--external=N` and
 /// `--calls=P,P..` in any order. Of two formats or two lists of calls the last one stands.
 pub fn read_link_words(heap: Global, words: &[String]) -> Result<LinkWords, WordsError> {
-    let Ok(passes) = every_pass(heap) else {
-        return Err(WordsError::NoMemory);
-    };
     let mut asked = LinkWords {
-        options: LinkOptions {
-            format: OutputFormat::Esm,
-            splitting_off: false,
-            strict_order: false,
-            manual_groups: false,
-            profiler_names: false,
-        },
+        options: PLAIN_OPTIONS,
         externals: Vec::new(heap),
-        passes,
+        passes: every_pass(heap)?,
     };
     for (i, word) in words.iter().enumerate() {
-        match read_word(heap, &mut asked, word.as_str()) {
-            Ok(()) => {}
-            Err(WordError::Bad) => return Err(WordsError::BadWord(i)),
-            Err(WordError::NoMemory) => return Err(WordsError::NoMemory),
-        }
+        asked.read_word(heap, i, word.as_str())?;
     }
     Ok(asked)
 }

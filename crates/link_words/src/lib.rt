@@ -6,7 +6,7 @@ mod lines;
 mod rules;
 mod words;
 
-pub use asked::{LinkSwitch, LinkWords, WordsError, read_link_words, read_option, with_option};
-pub use lines::{await_line, mark_line, wrapper_line};
+pub use asked::{LinkSwitch, LinkWords, PLAIN_OPTIONS, WordsError, read_link_words, with_option};
+pub use lines::{AwaitLine, MarkLine, WrapperLine};
 pub use rules::rule_words;
-pub use words::{format_word, pass_word, read_format, read_pass, wrap_word, yes_no};
+pub use words::{format_word, pass_word, read_format, read_pass, wrap_word};

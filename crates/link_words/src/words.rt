@@ -1,7 +1,7 @@
-// The words for formats, wrappers and passes.
+// The words for formats, wrappers and passes: no impls of `Worded`, since neither that trait nor the types are this crate's.
 ghost use Rattle.std.specs.Prelude.{◌≡◌};
 ghost use Rattle.table_words.specs.Words.{Named};
-ghost use Rattle.link_words.specs.Words.{format_word, wrap_word, flag_word, pass_word};
+ghost use Rattle.link_words.specs.Words.{format_word, wrap_word, pass_word};
 
 use marks::{OutputFormat, WrapKind};
 use settled::Pass;
@@ -37,12 +37,6 @@ pub fn wrap_word(wrap: WrapKind) -> &'static str
         WrapKind::Cjs => "cjs",
         WrapKind::Esm => "esm",
     }
-}
-
-pub fn yes_no(flag: bool) -> &'static str
-    ensures { result.now ≡ flag_word flag }
-{
-    if flag { "yes" } else { "no" }
 }
 
 pub fn pass_word(pass: Pass) -> &'static str

@@ -3,13 +3,21 @@
 
 mod cases;
 
-use cases::{Case, add_line, begin_case, our_lines};
-use std::fs;
+use cases::Case;
+use std::{fmt, fs};
 
 const FILE: &str = "answers.txt";
 
+/// How a case comes out: a case whose answers differ has to say so, and one that says so has to differ.
+#[derive(Clone, Copy, PartialEq, Eq)]
+enum Outcome {
+    Same,
+    Listed,
+    Unlisted,
+}
+
 /// How many cases there were, and how they came out.
-#[derive(Clone, Copy)]
+#[derive(Clone, Copy, Default)]
 struct Counts {
     cases: u32,
     same: u32,
@@ -17,31 +25,43 @@ struct Counts {
     unlisted: u32,
 }
 
-// A case whose answers differ has to say so, and one that says so has to differ.
-fn judge(rt: &HostRuntime, counts: Counts, case: &Case) -> anyhow::Result<Counts> {
-    let ours = our_lines(rt.alloc(), case)?;
-    let same = ours.as_str() == case.expected.as_str();
-    let cases = counts.cases.saturating_add(1);
-    match (same, case.differs) {
-        (true, false) => Ok(Counts {
+impl Counts {
+    fn add(&mut self, outcome: Outcome) {
+        let of_it = match outcome {
+            Outcome::Same => &mut self.same,
+            Outcome::Listed => &mut self.listed,
+            Outcome::Unlisted => &mut self.unlisted,
+        };
+        *of_it = of_it.saturating_add(1);
+        self.cases = self.cases.saturating_add(1);
+    }
+}
+
+impl fmt::Display for Counts {
+    fn fmt<W: fmt::Write>(&self, f: &mut fmt::Formatter<W>) -> fmt::Result {
+        let Counts {
             cases,
-            same: counts.same.saturating_add(1),
-            ..counts
-        }),
-        (false, true) => Ok(Counts {
-            cases,
-            listed: counts.listed.saturating_add(1),
-            ..counts
-        }),
+            same,
+            listed,
+            unlisted,
+        } = *self;
+        write!(
+            f,
+            "cases={cases} same={same} listed-differences={listed} unlisted={unlisted}"
+        )
+    }
+}
+
+fn judge(rt: &HostRuntime, case: &Case) -> anyhow::Result<Outcome> {
+    let ours = case.our_lines(rt.alloc())?;
+    match (ours.as_str() == case.expected.as_str(), case.differs) {
+        (true, false) => Ok(Outcome::Same),
+        (false, true) => Ok(Outcome::Listed),
         _ => {
             let head = case.head.as_str();
             let expected = case.expected.as_str();
             print!(rt; "{head}: the Rust answers\n{expected}and Tuchovai\n{ours}")?;
-            Ok(Counts {
-                cases,
-                unlisted: counts.unlisted.saturating_add(1),
-                ..counts
-            })
+            Ok(Outcome::Unlisted)
         }
     }
 }
@@ -49,32 +69,19 @@ fn judge(rt: &HostRuntime, counts: Counts, case: &Case) -> anyhow::Result<Counts
 fn main(rt: HostRuntime) -> anyhow::Result<()> {
     let heap = rt.alloc();
     let text = fs::read_to_string(&rt, FILE)?;
-    let mut counts = Counts {
-        cases: 0,
-        same: 0,
-        listed: 0,
-        unlisted: 0,
-    };
-    let mut case = begin_case(heap, "")?;
+    let mut counts = Counts::default();
+    let mut case = Case::begin(heap, "")?;
     for line in text.lines() {
         if line.starts_with("case ") {
             if !case.head.is_empty() {
-                counts = judge(&rt, counts, &case)?;
+                counts.add(judge(&rt, &case)?);
             }
-            case = begin_case(heap, line)?;
+            case = Case::begin(heap, line)?;
         } else {
-            add_line(&mut case, line)?;
+            case.add_line(line)?;
         }
     }
-    counts = judge(&rt, counts, &case)?;
-    let Counts {
-        cases,
-        same,
-        listed,
-        unlisted,
-    } = counts;
-    println!(rt;
-        "answers cases={cases} same={same} listed-differences={listed} unlisted={unlisted}"
-    )?;
+    counts.add(judge(&rt, &case)?);
+    println!(rt; "answers {counts}")?;
     Ok(())
 }

@@ -1,10 +1,10 @@
 // Reads the text form, line by line.
-use crate::errors::{Expected, LineError, TableError};
+use crate::errors::{Expected, TableError};
 use row_source::ModuleRow;
 use source::{ExportsKind, ImportKind, ImportRecord, Module, NormalModule, Span};
 use std::alloc::Global;
 use std::str::SplitWhitespace;
-use table_words::{raise, read_exports_kind, read_flag, read_import_kind, read_number, read_span};
+use table_words::{Flag, LineError, Worded, end_line, raise, read_lines, read_number, read_span};
 
 /// What a table says, as rows: whether they make a source is for the row check to tell.
 #[derive(Drop)]
@@ -29,102 +29,93 @@ pub fn read_table(heap: Global, text: &str) -> Result<Table, TableError> {
         modules: Vec::new(heap),
         records: Vec::new(heap),
     };
-    for (i, line) in text.lines().enumerate() {
-        match read_line(&mut draft, line) {
-            Ok(()) => {}
-            Err(LineError::NoMemory) => return Err(TableError::NoMemory),
-            Err(LineError::Expected(expected)) => {
-                return Err(TableError::BadLine {
-                    line: i.saturating_add(1),
-                    expected,
-                });
-            }
-        }
-    }
+    read_lines(text, |first, words| draft.read_line(first, words))?;
     let Draft {
         runtime,
         modules,
         records,
     } = draft;
-    match runtime {
-        Some(runtime) => Ok(Table {
-            runtime,
-            modules,
-            records,
-        }),
-        None => Err(TableError::NoRuntime),
-    }
+    Ok(Table {
+        runtime: runtime.ok_or(TableError::NoRuntime)?,
+        modules,
+        records,
+    })
 }
 
-fn read_line(draft: &mut Draft, line: &str) -> Result<(), LineError> {
-    let content = match line.split_once('#') {
-        Some((content, _)) => content,
-        None => line,
-    };
-    let mut words = content.split_whitespace();
-    let Some(first) = words.next() else {
-        return Ok(());
-    };
-    if draft.runtime.is_none() {
-        return read_runtime(draft, first, words);
-    }
-    match first {
-        "module" => read_module(draft, words),
-        "external" => {
-            end_line(words)?;
-            push_module(draft, Module::External)
+impl Draft {
+    fn read_line(
+        &mut self,
+        first: &str,
+        words: SplitWhitespace<'_>,
+    ) -> Result<(), LineError<Expected>> {
+        if self.runtime.is_none() {
+            return self.read_runtime(first, words);
         }
-        _ => match read_import_kind(first) {
-            Some(kind) => read_record(draft, kind, words),
-            None => Err(Expected::LineWord.into()),
-        },
-    }
-}
-
-fn read_runtime(
-    draft: &mut Draft,
-    first: &str,
-    mut words: SplitWhitespace<'_>,
-) -> Result<(), LineError> {
-    if first != "runtime" {
-        return Err(Expected::RuntimeLine.into());
-    }
-    let word = words.next().unwrap_or("");
-    let Some(runtime) = read_number(word) else {
-        return Err(Expected::Number.into());
-    };
-    end_line(words)?;
-    draft.runtime = Some(runtime);
-    Ok(())
-}
-
-fn read_module(draft: &mut Draft, mut words: SplitWhitespace<'_>) -> Result<(), LineError> {
-    let Some(scanned) = read_exports_kind(words.next().unwrap_or("")) else {
-        return Err(Expected::ExportsKind.into());
-    };
-    let mut module = plain_module(scanned);
-    let mut spanned = false;
-    for word in words {
-        if spanned {
-            return Err(Expected::End.into());
-        }
-        match read_flag(word) {
-            Some(flag) => {
-                let Some(raised) = raise(module, flag) else {
-                    return Err(Expected::FlagOrSpan.into());
-                };
-                module = raised;
+        match first {
+            "module" => self.read_module(words),
+            "external" => {
+                end_line(words, Expected::End)?;
+                self.push_module(Module::External)
             }
-            None => {
-                let Some(span) = read_span(word) else {
-                    return Err(Expected::FlagOrSpan.into());
-                };
-                module.await_span = span;
-                spanned = true;
+            _ => {
+                let kind = ImportKind::from_word(first).ok_or(Expected::LineWord)?;
+                self.push_record(read_record(kind, words)?)
             }
         }
     }
-    push_module(draft, Module::Normal(module))
+
+    fn read_runtime(
+        &mut self,
+        first: &str,
+        mut words: SplitWhitespace<'_>,
+    ) -> Result<(), LineError<Expected>> {
+        if first != "runtime" {
+            return Err(Expected::RuntimeLine.into());
+        }
+        let runtime = words
+            .next()
+            .and_then(|word| read_number(word))
+            .ok_or(Expected::Number)?;
+        end_line(words, Expected::End)?;
+        self.runtime = Some(runtime);
+        Ok(())
+    }
+
+    fn read_module(&mut self, mut words: SplitWhitespace<'_>) -> Result<(), LineError<Expected>> {
+        let scanned = words
+            .next()
+            .and_then(ExportsKind::from_word)
+            .ok_or(Expected::ExportsKind)?;
+        let mut module = plain_module(scanned);
+        for word in words.by_ref() {
+            if let Some(flag) = Flag::from_word(word) {
+                module = raise(module, flag).ok_or(Expected::FlagOrSpan)?;
+            } else {
+                module.await_span = read_span(word).ok_or(Expected::FlagOrSpan)?;
+                break;
+            }
+        }
+        end_line(words, Expected::End)?;
+        self.push_module(Module::Normal(module))
+    }
+
+    fn push_module(&mut self, described: Module) -> Result<(), LineError<Expected>> {
+        let first = u32::try_from(self.records.len()).map_err(|_| Expected::FewerRecords)?;
+        self.modules.push(ModuleRow {
+            described,
+            first,
+            count: 0,
+        })?;
+        Ok(())
+    }
+
+    // The record is the last module's.
+    fn push_record(&mut self, record: ImportRecord) -> Result<(), LineError<Expected>> {
+        let row = self.modules.last_mut().ok_or(Expected::ModuleFirst)?;
+        row.count = row.count.saturating_add(1);
+        self.records.push(record)?;
+        Ok(())
+    }
 }
 
 fn plain_module(scanned: ExportsKind) -> NormalModule {
@@ -139,63 +130,25 @@ fn plain_module(scanned: ExportsKind) -> NormalModule {
     }
 }
 
-fn push_module(draft: &mut Draft, described: Module) -> Result<(), LineError> {
-    let Ok(first) = u32::try_from(draft.records.len()) else {
-        return Err(Expected::FewerRecords.into());
+fn read_record(kind: ImportKind, mut words: SplitWhitespace<'_>) -> Result<ImportRecord, Expected> {
+    let target = match words.next() {
+        Some("-") => None,
+        word => Some(
+            word.and_then(|word| read_number(word))
+                .ok_or(Expected::Target)?,
+        ),
     };
-    draft.modules.push(ModuleRow {
-        described,
-        first,
-        count: 0,
-    })?;
-    Ok(())
-}
-
-fn read_record(
-    draft: &mut Draft,
-    kind: ImportKind,
-    mut words: SplitWhitespace<'_>,
-) -> Result<(), LineError> {
-    let target = match words.next().unwrap_or("") {
-        "-" => None,
-        word => match read_number(word) {
-            Some(target) => Some(target),
-            None => return Err(Expected::Target.into()),
-        },
-    };
-    let mut word = words.next().unwrap_or("");
-    let star = word == "star";
+    let mut word = words.next();
+    let star = word == Some("star");
     if star {
-        word = words.next().unwrap_or("");
+        word = words.next();
     }
-    let Some(span) = read_span(word) else {
-        return Err(Expected::Span.into());
-    };
-    end_line(words)?;
-    push_record(
-        draft,
-        ImportRecord {
-            kind,
-            target,
-            star,
-            span,
-        },
-    )
-}
-
-// The record is the last module's.
-fn push_record(draft: &mut Draft, record: ImportRecord) -> Result<(), LineError> {
-    let Some(row) = draft.modules.last_mut() else {
-        return Err(Expected::ModuleFirst.into());
-    };
-    row.count = row.count.saturating_add(1);
-    draft.records.push(record)?;
-    Ok(())
-}
-
-fn end_line(mut words: SplitWhitespace<'_>) -> Result<(), LineError> {
-    match words.next() {
-        Some(_) => Err(Expected::End.into()),
-        None => Ok(()),
-    }
+    let span = word.and_then(|word| read_span(word)).ok_or(Expected::Span)?;
+    end_line(words, Expected::End)?;
+    Ok(ImportRecord {
+        kind,
+        target,
+        star,
+        span,
+    })
 }

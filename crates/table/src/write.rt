@@ -1,8 +1,8 @@
 // Writes any source in the text form, each module with its number in a comment.
-use source::{ImportRecord, Module, ModuleSource, NormalModule};
+use source::{ImportRecord, Module, ModuleSource, NormalModule, Span};
 use std::alloc::{AllocError, Global};
 use std::fmt::Write;
-use table_words::{Flag, exports_word, flag_word, has_flag, import_word};
+use table_words::{Flag, Worded, has_flag};
 
 const FLAGS: [Flag; 5] = [
     Flag::Lazy,
@@ -36,24 +36,22 @@ fn write_modules<S: ModuleSource>(out: &mut String, source: &S) -> Result<(), Al
 }
 
 fn write_normal(out: &mut String, module: &NormalModule) -> Result<(), AllocError> {
-    let kind = exports_word(module.scanned);
+    let kind = module.scanned.word();
     write!(out, "module {kind}")?;
     for flag in FLAGS {
         if has_flag(module, flag) {
-            let word = flag_word(flag);
+            let word = flag.word();
             write!(out, " {word}")?;
         }
     }
-    let start = module.await_span.start;
-    let end = module.await_span.end;
-    if start != 0 || end != 0 {
-        write!(out, " {start}..{end}")?;
+    if module.await_span != (Span { start: 0, end: 0 }) {
+        write_span(out, module.await_span)?;
     }
     Ok(())
 }
 
 fn write_record(out: &mut String, record: &ImportRecord) -> Result<(), AllocError> {
-    let kind = import_word(record.kind);
+    let kind = record.kind.word();
     write!(out, "  {kind} ")?;
     match record.target {
         Some(target) => write!(out, "{target}")?,
@@ -62,7 +60,11 @@ fn write_record(out: &mut String, record: &ImportRecord) -> Result<(), AllocErro
     if record.star {
         write!(out, " star")?;
     }
-    let start = record.span.start;
-    let end = record.span.end;
-    writeln!(out, " {start}..{end}")
+    write_span(out, record.span)?;
+    writeln!(out)
+}
+
+fn write_span(out: &mut String, span: Span) -> Result<(), AllocError> {
+    let Span { start, end } = span;
+    write!(out, " {start}..{end}")
 }

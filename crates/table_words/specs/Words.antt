@@ -1,8 +1,9 @@
 -- The words of the text form.
 --
 --   exports_word, import_word, flag_word   the word for each exports kind, import kind and flag, as its bytes
+--   yes_no                                 the word for true and for false
 --   Named                                  what a text is read as: the case whose word it is, or none where it is no case's
-use Rattle.std.specs.Prelude.{◌≡◌, ℕ, List, Some, None, codes, Option, ◌≢◌}
+use Rattle.std.specs.Prelude.{◌≡◌, ℕ, Bool, true, false, List, Some, None, codes, Option, ◌≢◌}
 use Rattle.source.specs.declared.ExportsKind.{ExportsKind}
 use Rattle.source.specs.declared.ExportsKind.TheVariants as exports
 use Rattle.source.specs.declared.ImportKind.{ImportKind}
@@ -30,6 +31,10 @@ flag_word Await = codes "await"
 flag_word Module = codes "module"
 flag_word Node = codes "node"
 flag_word Entry = codes "entry"
+
+abbrev pub yes_no : Bool → List ℕ
+yes_no true = codes "yes"
+yes_no false = codes "no"
 
 abbrev pub Named : {K : Type 0} → (K → List ℕ) → List ℕ → Option K → Type 0
 Named word text (Some k) = text ≡ word k

@@ -24,26 +24,13 @@ pub fn raise(before: NormalModule, flag: Flag) -> Option<NormalModule>
     if has_flag(&before, flag) {
         return None;
     }
-    Some(match flag {
-        Flag::Lazy => NormalModule {
-            lazy_export: true,
-            ..before
-        },
-        Flag::Await => NormalModule {
-            top_level_await: true,
-            ..before
-        },
-        Flag::Module => NormalModule {
-            module_or_exports: true,
-            ..before
-        },
-        Flag::Node => NormalModule {
-            node_esm: true,
-            ..before
-        },
-        Flag::Entry => NormalModule {
-            entry: true,
-            ..before
-        },
-    })
+    let mut after = before;
+    match flag {
+        Flag::Lazy => after.lazy_export = true,
+        Flag::Await => after.top_level_await = true,
+        Flag::Module => after.module_or_exports = true,
+        Flag::Node => after.node_esm = true,
+        Flag::Entry => after.entry = true,
+    }
+    Some(after)
 }

@@ -2,11 +2,11 @@
 #![tactic(auto)]
 
 mod flags;
+mod lines;
 mod numbers;
 mod words;
 
 pub use flags::{has_flag, raise};
+pub use lines::{LineError, TextError, end_line, owned_words, read_lines};
 pub use numbers::{read_number, read_span};
-pub use words::{
-    Flag, exports_word, flag_word, import_word, read_exports_kind, read_flag, read_import_kind,
-};
+pub use words::{Flag, Worded};

@@ -6,17 +6,11 @@ use std::env;
 use std::process::ExitCode;
 
 fn main(rt: HostRuntime) -> anyhow::Result<ExitCode> {
-    let mut words = Vec::new(rt.alloc());
-    for word in env::args(&rt)?.skip(1) {
-        words.push(word)?;
-    }
+    let words = env::args(&rt)?.skip(1).collect::<Vec<String>>(rt.alloc())?;
     let report = run(&rt, words.as_slice())?;
     let out = report.out.as_str();
     let err = report.err.as_str();
     print!(rt; "{out}")?;
     eprint!(rt; "{err}")?;
-    if report.failed {
-        return Ok(ExitCode::FAILURE);
-    }
-    Ok(ExitCode::SUCCESS)
+    Ok(ExitCode::from(report.status()))
 }
