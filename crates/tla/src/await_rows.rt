@@ -4,6 +4,7 @@ ghost use Rattle.std.specs.Prelude.{◌≡◌, ℕ, ◌<◌, ◌≤◌, ◌&&◌
 ghost use Rattle.source.specs.Meaning.{count_of, record_total};
 ghost use Rattle.marks.specs.Passes.{Awaits};
 ghost use Rattle.ways.specs.Targets.{flag, Filled, is_require};
+ghost use Rattle.ways.specs.Ways.{Targets};
 ghost use Rattle.tla.specs.Rows.{await_span, row_total, RowOf, RowsWritten, RowCount, AwaitRows};
 ghost use Rattle.tla.specs.Once.{Known, WaitsFor};
 
@@ -34,10 +35,11 @@ fn await_span(module: Module) -> Span
 
 /// How many rows there are, where the facts say which modules wait. An external module has no records, so every module
 /// is looked at.
-pub fn count_await_rows<S: Linkable>(source: &S, facts: &[YesNo]) -> usize
+pub fn count_await_rows<S: ModuleSource>(source: &S, facts: &[YesNo]) -> usize
     requires records { record_total (S.meaning source.now) ≤ 32768 }
     requires facts { count_of (S.meaning source.now) ≤ length facts.now }
     requires waits { Filled (count_of (S.meaning source.now)) (Awaits (S.meaning source.now)) facts.now }
+    requires targets { Targets (S.meaning source.now) }
     ensures count { result ≡ row_total (S.meaning source.now) (flag facts.now) }
     ensures only { (other : ℕ) → RowCount (S.meaning source.now) other → other ≡ result }
 {

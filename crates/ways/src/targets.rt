@@ -1,9 +1,9 @@
 // Flags at the targets of records.
 ghost use Rattle.std.specs.Prelude.{◌≡◌, ℕ, ◌<◌, ◌≤◌, false, length};
 ghost use Rattle.source.specs.Meaning.{count_of, record_at};
+ghost use Rattle.ways.specs.Ways.{Targets};
 ghost use Rattle.ways.specs.Targets.{flag, picked, PointedAt, Cleared};
 
-use crate::linkable::Linkable;
 use source::{ImportKind, Module, ModuleSource};
 use spread::YesNo;
 
@@ -51,9 +51,10 @@ pub fn clear<S: ModuleSource>(source: &S, flags: &mut [YesNo])
 }
 
 /// Raises the flag at the target of every record that is picked.
-pub fn point_at<S: Linkable>(source: &S, pick: Pick, from: &[YesNo], flags: &mut [YesNo])
+pub fn point_at<S: ModuleSource>(source: &S, pick: Pick, from: &[YesNo], flags: &mut [YesNo])
     requires from { count_of (S.meaning source.now) ≤ length from.now }
     requires flags { count_of (S.meaning source.now) ≤ length flags.old }
+    requires targets { Targets (S.meaning source.now) }
     ensures { PointedAt pick (S.meaning source.now) (flag from.now) flags.old flags.new }
 {
     for m in 0..source.module_count() {

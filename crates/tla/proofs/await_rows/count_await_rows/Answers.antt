@@ -19,7 +19,7 @@ loop-k-preserved-in_default g c =
 pub gives_row-requires : goal.gives_row-requires
 gives_row-requires g c =
     let w = g.S.ModuleSource.meaning c.args.source.now in
-    let lt = looked_below w (flag c.args.facts.now) c.loop-m.m c.loop-k.k c.look-kind.result c.look-kind.ensures (g.S.ModuleSource.proper c.args.source.now) (omega (arith, c.record_count-k-end.ensures)) c.in-Some.t c.in-Some.is (g.met.S.Linkable.targets c.args.source.now) in
+    let lt = looked_below w (flag c.args.facts.now) c.loop-m.m c.loop-k.k c.look-kind.result c.look-kind.ensures (g.S.ModuleSource.proper c.args.source.now) (omega (arith, c.record_count-k-end.ensures)) c.in-Some.t c.in-Some.is c.requires.targets in
     omega (arith, lt, c.requires.facts)
 
 pub overflow_add-n : goal.overflow_add-n
@@ -59,5 +59,5 @@ returns g c =
     let all : c.loop-m.n ≡ row_total w waits = c.loop-m.invariant ∙ before_all w waits c.loop-m.m (omega (arith, c.module_count-m-end.ensures, c.loop-m.auto.m-end)) in
     record {
       count = all;
-      only = λ other o. o.2 ∙ total_one w (g.S.ModuleSource.proper c.args.source.now) (g.met.S.Linkable.targets c.args.source.now) o.0 waits o.1 c.requires.waits ∙ sym all;
+      only = λ other o. o.2 ∙ total_one w (g.S.ModuleSource.proper c.args.source.now) c.requires.targets o.0 waits o.1 c.requires.waits ∙ sym all;
     }

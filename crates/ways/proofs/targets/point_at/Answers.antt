@@ -29,7 +29,7 @@ pub bounds-flags-t : goal.bounds-flags-t
 bounds-flags-t g c =
     let w = g.S.ModuleSource.meaning c.args.source.now in
     let points = look_points w c.loop-m.m c.loop-k.k c.look-kind.result c.look-kind.ensures c.in-Some.t (c.in-Normal.field-0, sym c.in-Normal.ensures) c.in-Some.is in
-    let lt = (g.met.S.Linkable.targets c.args.source.now) c.loop-m.m c.in-Some.t (c.loop-k.k, c.look-kind.result.0, points) in
+    let lt = c.requires.targets c.loop-m.m c.in-Some.t (c.loop-k.k, c.look-kind.result.0, points) in
     omega (arith, lt, c.requires.flags, c.loop-k.auto.flags, c.loop-m.auto.flags)
 
 pub loop-k-preserved : goal.loop-k-preserved
@@ -42,7 +42,7 @@ loop-k-preserved g c =
     let x = c.look-kind.result in
     let looked = c.look-kind.ensures in
     let points = look_points w m k x looked t (c.in-Normal.field-0, sym c.in-Normal.ensures) c.in-Some.is in
-    let below : t < length c.loop-k.flags = omega (arith, (g.met.S.Linkable.targets c.args.source.now) m t (k, x.0, points), c.requires.flags, c.loop-k.auto.flags, c.loop-m.auto.flags) in
+    let below : t < length c.loop-k.flags = omega (arith, c.requires.targets m t (k, x.0, points), c.requires.flags, c.loop-k.auto.flags, c.loop-m.auto.flags) in
     let same : (y : ℕ) → P m k y → y ≡ t = λ y p. some_is x.1 y t (look_target w m k x looked y p.kind p.points) c.in-Some.is in
     elim c.if-picks.branch [
       | then-picks v ↦

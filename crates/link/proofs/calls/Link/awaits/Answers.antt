@@ -71,6 +71,7 @@ count_await_rows-requires g c =
       records = enough g at;
       facts = within g at _ (omega (arith, (work g at).1, c.min.ensures, c.min-2.ensures, c.min-shortest.ensures, c.find_awaiting.auto.facts));
       waits = c.find_awaiting.ensures;
+      targets = c.new.result.targets;
     }
 
 pub returns-then-list-count_await_rows-clause-answer : goal.returns-then-list-count_await_rows-clause-answer
