@@ -3,8 +3,8 @@
 
 use spread::{Arrow, EntrySet, Fact, YesNo, spread};
 use std::alloc::{AllocError, Global};
-use std::env;
 use std::time::Instant;
+use std::{env, fmt};
 
 const PLACES: u32 = 4096;
 
@@ -31,15 +31,17 @@ const SHAPES: [Shape; 7] = [
     Shape::Random,
 ];
 
-fn shape_name(shape: Shape) -> &'static str {
-    match shape {
-        Shape::ChainInOrder => "chain-in-order",
-        Shape::ChainInReverse => "chain-in-reverse",
-        Shape::ChainShuffled => "chain-shuffled",
-        Shape::ChainNumberedAtRandom => "chain-numbered-at-random",
-        Shape::Tree => "tree",
-        Shape::Circle => "circle",
-        Shape::Random => "random",
+impl fmt::Display for Shape {
+    fn fmt<W: fmt::Write>(&self, f: &mut fmt::Formatter<W>) -> fmt::Result {
+        f.write_str(match self {
+            Shape::ChainInOrder => "chain-in-order",
+            Shape::ChainInReverse => "chain-in-reverse",
+            Shape::ChainShuffled => "chain-shuffled",
+            Shape::ChainNumberedAtRandom => "chain-numbered-at-random",
+            Shape::Tree => "tree",
+            Shape::Circle => "circle",
+            Shape::Random => "random",
+        })
     }
 }
 
@@ -52,10 +54,7 @@ fn next_number(state: u64) -> u64 {
 
 // The numbers below `count`, in an order that looks random.
 fn shuffled(heap: Global, count: u32) -> Result<Vec<u32>, AllocError> {
-    let mut numbers = Vec::new(heap);
-    for i in 0..count {
-        numbers.push(i)?;
-    }
+    let mut numbers: Vec<u32> = (0..count).collect(heap)?;
     let mut state: u64 = 7;
     let len = numbers.len();
     for i in 0..len {
@@ -74,14 +73,10 @@ fn at(numbers: &[u32], i: u32) -> u32 {
 
 // For each place the one after it on a chain through all places in the order that is given; the last has itself.
 fn successors(heap: Global, order: &[u32]) -> Result<Vec<u32>, AllocError> {
-    let mut after = Vec::new(heap);
-    for place in 0..PLACES {
-        after.push(place)?;
-    }
-    for i in 1..PLACES {
-        let before = at(order, i - 1) as usize;
-        if before < after.len() {
-            after[before] = at(order, i);
+    let mut after: Vec<u32> = (0..PLACES).collect(heap)?;
+    for (before, next) in order.iter().zip(order.iter().skip(1)) {
+        if let Some(place) = after.get_mut(*before as usize) {
+            *place = *next;
         }
     }
     Ok(after)
@@ -149,11 +144,11 @@ fn arrows_of(heap: Global, shape: Shape) -> Result<Vec<Arrow>, AllocError> {
 
 // No fact anywhere but `first` where the shape begins.
 fn starts<F: Fact + Drop>(heap: Global, place: u32, first: F) -> Result<Vec<F>, AllocError> {
-    let mut facts = Vec::new(heap);
-    for i in 0..PLACES {
-        facts.push(if i == place { first } else { F::none() })?;
-    }
-    Ok(facts)
+    Ok(
+        (0..PLACES)
+            .map(|i| if i == place { first } else { F::none() })
+            .collect(heap)?,
+    )
 }
 
 fn first_place(heap: Global, shape: Shape) -> Result<u32, AllocError> {
@@ -179,17 +174,11 @@ fn measure<F: Fact + Drop>(
     for _ in 0..ROUNDS {
         let mut facts = starts(heap, place, first)?;
         let _ = spread(facts.as_mut_slice(), arrows.as_slice());
-        reached = 0;
-        for fact in facts.as_slice() {
-            if fact.same(first) {
-                reached = reached.saturating_add(1);
-            }
-        }
+        reached = facts.iter().filter(|fact| **fact == first).count();
     }
     let micros = begun.elapsed(rt)?.as_micros() / 20;
-    let name = shape_name(shape);
     let rows = arrows.len();
-    print!(rt; "shape={name} kind={kind} places={PLACES} arrows={rows} reached={reached}")?;
+    print!(rt; "shape={shape} kind={kind} places={PLACES} arrows={rows} reached={reached}")?;
     if timed {
         print!(rt; " micros={micros}")?;
     }
