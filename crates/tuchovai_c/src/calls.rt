@@ -1,11 +1,12 @@
 // The functions that are exported. A slice is a pointer and a length in C; an allocator is nothing there.
-ghost use Rattle.std.specs.Prelude.{◌≡◌, length};
+ghost use Rattle.std.specs.Prelude.{◌≡◌, ◌≢◌, length, Err, IsNone, IsSome, OnErr};
+ghost use Rattle.faults.specs.declared.Fault.{Fault};
 ghost use Rattle.card.specs.Cards.{card_verdict};
 ghost use Rattle.card_writer.specs.Written.{rewrite_answer, rewritten_by};
-ghost use Rattle.tuchovai_c.specs.declared.calls.CallError.TheVariants.{Refused, NoMemory};
+ghost use Rattle.tuchovai_c.specs.declared.calls.CallError.TheVariants.{Refused, NoMemory, UnknownOptions};
 ghost use Rattle.tuchovai_c.specs.Calls.{call_error, fault_numbers, status_of, told_fault, unless_refused};
 ghost use Rattle.tuchovai_c.specs.Tables.{table_room};
-ghost use Rattle.tuchovai_c.specs.Numbers.{status_number};
+ghost use Rattle.tuchovai_c.specs.Numbers.{options_of, status_number};
 
 use crate::numbers::{Status, number_of_layer};
 use crate::options::options_of;
@@ -96,7 +97,10 @@ fn told(came_to: Result<(), CallError>, fault: &mut TuchovaiFault) -> u32
     u32::from(status)
 }
 
-fn table_of_card(heap: Global, image: &[u8], options: u32) -> Result<Vec<u8>, CallError> {
+fn table_of_card(heap: Global, image: &[u8], options: u32) -> Result<Vec<u8>, CallError>
+    ensures unknown { IsNone (options_of options) → result ≡ Err UnknownOptions }
+    ensures refused { (f : Fault) → IsSome (options_of options) → card_verdict image.now ≡ Err f → result ≡ Err (Refused f) }
+{
     let options = options_of(options).ok_or(CallError::UnknownOptions)?;
     check_card(image)?;
     let done = classify(heap, &CardSource::open(image), options)?;
@@ -109,12 +113,11 @@ fn table_of_card(heap: Global, image: &[u8], options: u32) -> Result<Vec<u8>, Ca
 }
 
 /// Writes the table of a card if there is room for it.
-fn write_table(
-    heap: Global,
-    image: &[u8],
-    options: u32,
-    table: &mut [u8],
-) -> Result<(), CallError> {
+fn write_table(heap: Global, image: &[u8], options: u32, table: &mut [u8]) -> Result<(), CallError>
+    ensures unknown { IsNone (options_of options) → result ≡ Err UnknownOptions }
+    ensures refused { (f : Fault) → IsSome (options_of options) → card_verdict image.now ≡ Err f → result ≡ Err (Refused f) }
+    ensures kept { OnErr result (table.new ≡ table.old) }
+{
     let bytes = table_of_card(heap, image, options)?;
     if table.len() < bytes.len() {
         return Err(CallError::TableTooShort);
@@ -168,6 +171,10 @@ pub extern "C" fn tuchovai_classify(
     options: u32,
     table: &mut [u8],
     fault: &mut TuchovaiFault,
-) -> u32 {
+) -> u32
+    ensures unknown { IsNone (options_of options) → (result ≡ 4) × (fault.new ≡ told_fault (Err UnknownOptions)) }
+    ensures refused { (f : Fault) → IsSome (options_of options) → card_verdict image.now ≡ Err f → (result ≡ 1) × (fault.new ≡ fault_numbers f) }
+    ensures kept { result ≢ 0 → table.new ≡ table.old }
+{
     told(write_table(heap, image, options, table), fault)
 }
