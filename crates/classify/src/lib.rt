@@ -4,4 +4,3 @@
 mod job;
 
 pub use job::{Classified, classify};
-pub use run_list::ListError as ClassifyError;

@@ -15,11 +15,9 @@ pub fn every_order_settles()
     ensures one { OneSettled }
     ensures outcome { OneOutcome }
     ensures first { KindByFirst }
-{
-}
+{}
 
 /// What the settled marks are in nine small graphs.
 pub fn worked_examples()
     ensures { Worked }
-{
-}
+{}

@@ -8,8 +8,8 @@
 use Rattle.std.specs.Prelude.{Ok, Err, Result}
 use Rattle.faults.specs.declared.Fault.{Fault}
 use Rattle.faults.specs.Faults.{refusal_number}
-use Rattle.classify.specs.declared.error.ClassifyError.{ClassifyError}
-use Rattle.classify.specs.declared.error.ClassifyError.TheVariants as classify
+use Rattle.run_list.specs.declared.error.ListError.{ListError}
+use Rattle.run_list.specs.declared.error.ListError.TheVariants as classify
 use Rattle.tuchovai_c.specs.declared.calls.CallError.{CallError}
 use Rattle.tuchovai_c.specs.declared.calls.CallError.TheVariants as call
 use Rattle.tuchovai_c.specs.declared.calls.TuchovaiFault.{TuchovaiFault}
@@ -17,7 +17,7 @@ use Rattle.tuchovai_c.specs.declared.numbers.Status.{Status}
 use Rattle.tuchovai_c.specs.declared.numbers.Status.TheVariants as status
 use Rattle.tuchovai_c.specs.Numbers.{layer_number}
 
-abbrev pub call_error : ClassifyError → CallError
+abbrev pub call_error : ListError → CallError
 call_error classify.Memory = call.NoMemory
 call_error (classify.Refused f) = call.Refused f
 

@@ -13,8 +13,9 @@ use crate::options::options_of;
 use crate::table::table_of;
 use card::{CardSource, check_card};
 use card_writer::rewrite_card;
-use classify::{ClassifyError, classify};
+use classify::classify;
 use faults::Fault;
+use run_list::ListError;
 use source::{ModuleSource, count_records};
 use std::alloc::{AllocError, Global};
 
@@ -67,13 +68,13 @@ impl From<AllocError> for CallError {
     }
 }
 
-impl From<ClassifyError> for CallError {
+impl From<ListError> for CallError {
     ghost from_gives = { λ e error. error ≡ call_error e };
 
-    fn from(error: ClassifyError) -> CallError {
+    fn from(error: ListError) -> CallError {
         match error {
-            ClassifyError::Memory => CallError::NoMemory,
-            ClassifyError::Refused(fault) => CallError::Refused(fault),
+            ListError::Memory => CallError::NoMemory,
+            ListError::Refused(fault) => CallError::Refused(fault),
         }
     }
 }
