@@ -8,7 +8,7 @@ use crate::files::{read_contents, write_file};
 use crate::refused::Refused;
 use crate::report::Report;
 use crate::sources::{Contents, OpenSource};
-use card_writer::write_card;
+use card_image::{ImageError, card_image};
 use source::{ModuleSource, RECORD_LIMIT, count_records};
 use std::alloc::{AllocError, Global};
 use table::write_table;
@@ -119,22 +119,11 @@ fn check(rt: &HostRuntime, path: &str) -> Result<Report, CommandError>
 }
 
 // The card of a source, or why there is none.
-fn card_of<S: ModuleSource>(
-    heap: Global,
-    path: &str,
-    source: &S,
-    records: usize,
-) -> Result<Vec<u8>, CommandError> {
-    let size = 16usize
-        .saturating_add(source.module_count().saturating_mul(24))
-        .saturating_add(records.saturating_mul(18));
-    let mut image = vec![in heap; 0u8; size]?;
-    in_file(
-        heap,
-        path,
-        write_card(source, image.as_mut_slice()).map_err(|fault| Refused(fault)),
-    )?;
-    Ok(image)
+fn card_of<S: ModuleSource>(heap: Global, path: &str, source: &S) -> Result<Vec<u8>, CommandError> {
+    card_image(heap, source).or_else(|error| match error {
+        ImageError::Refused(fault) => in_file(heap, path, Err(Refused(fault))),
+        ImageError::NoMemory(error) => Err(error.into()),
+    })
 }
 
 fn pack(rt: &HostRuntime, from: &str, to: &str) -> Result<Report, CommandError>
@@ -147,7 +136,7 @@ fn pack(rt: &HostRuntime, from: &str, to: &str) -> Result<Report, CommandError>
     };
     let (modules, records) = (table.modules.len(), table.records.len());
     let source = source_in(heap, from, &contents)?;
-    let image = card_of(heap, from, &source, records)?;
+    let image = card_of(heap, from, &source)?;
     write_file(rt, to, image.as_slice())?;
     let bytes = image.len();
     let out = format!(in heap;

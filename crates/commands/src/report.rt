@@ -5,7 +5,7 @@ ghost use Rattle.commands.specs.Reports.{Quiet, Whole, status, run_text};
 use crate::errors::CommandError;
 use std::alloc::{AllocError, Global};
 
-/// What goes to standard output and to standard error, and whether the status is 1.
+/// What goes to standard output and to standard error, and whether the status is 1: a flag, since a refusal can go to either.
 #[derive(Drop)]
 pub struct Report {
     pub out: String,

@@ -7,7 +7,7 @@ mod tally;
 
 use anyhow::anyhow;
 use card::{CardSource, check_card};
-use card_writer::write_card;
+use card_image::{ImageError, card_image};
 use classify::classify;
 use marks::{LinkOptions, OutputFormat};
 use row_source::RowSource;
@@ -30,12 +30,10 @@ fn card_of(heap: Global, shape: Shape) -> anyhow::Result<Vec<u8>> {
     let rows = rows_of(heap, shape)?;
     let (modules, records) = (rows.modules.as_slice(), rows.records.as_slice());
     let source = RowSource::open(0, modules, records);
-    let size = 16usize
-        .saturating_add(modules.len().saturating_mul(24))
-        .saturating_add(records.len().saturating_mul(18));
-    let mut image = vec![in heap; 0u8; size]?;
-    write_card(&source, image.as_mut_slice()).map_err(|_| anyhow!("not written"))?;
-    Ok(image)
+    card_image(heap, &source).map_err(|error| match error {
+        ImageError::Refused(_) => anyhow!("not written"),
+        ImageError::NoMemory(error) => error.into(),
+    })
 }
 
 fn run_shape(rt: &HostRuntime, shape: Shape, timed: bool) -> anyhow::Result<()> {
