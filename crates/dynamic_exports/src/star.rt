@@ -15,6 +15,7 @@ use spread::{Arrow, YesNo};
 use ways::{Linkable, Pick, Way, clear, point_at, spread_along};
 
 // External, or of the CommonJS kind.
+// By cases, as a reader would list them.
 fn is_open_end(module: Module, kind: ExportsKind) -> bool
     ensures { result ≡ open_end «module» kind }
 {
@@ -69,6 +70,7 @@ fn dynamic_row<S: ModuleSource>(
     Mark::read(row).with_dynamic(row.dynamic | dynamic).row()
 }
 
+// As the wrap pass writes its rows: what is shared is `write_front`.
 fn write_dynamic<S: ModuleSource>(
     source: &S,
     rows: &mut [MarkRow],

@@ -86,6 +86,7 @@ impl Refusal {
 }
 
 impl Layer {
+    // By cases: a word is no number that a discriminant could be.
     pub fn name(self) -> &'static str
         ensures { result.now ≡ layer_name self }
     {

@@ -80,6 +80,7 @@ fn check_records<S: ModuleSource>(
 ) -> Result<(), Fault>
     ensures { result ≡ each (record_verdict options (S.meaning source.now) importer m) 0 (records_of (S.meaning source.now) m) }
 {
+    // A source answers by number.
     for k in 0..source.record_count(m) {
         check_record(source, options, importer, m, k, source.record(m, k))?;
     }
@@ -89,6 +90,7 @@ fn check_records<S: ModuleSource>(
 pub fn check_all_records<S: ModuleSource>(source: &S, options: LinkOptions) -> Result<(), Fault>
     ensures { result ≡ records_verdict options (S.meaning source.now) }
 {
+    // A source answers by number.
     for m in 0..source.module_count() {
         let Module::Normal(importer) = source.module(m) else {
             continue;

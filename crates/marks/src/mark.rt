@@ -24,6 +24,7 @@ impl Model for Mark {
     ghost inverse = { λ r. record { row = r } };
 }
 
+// By cases, as a reader would list them.
 fn agree(kind: ExportsKind, wrap: WrapKind) -> bool
     ensures { result ≡ agrees kind wrap }
 {

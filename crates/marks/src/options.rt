@@ -35,6 +35,7 @@ impl LinkOptions {
     pub fn acts_as_require(self, kind: ImportKind) -> bool
         ensures { result ≡ acts_as_require self kind }
     {
+        // By cases: one of them goes by the options.
         match kind {
             ImportKind::Require => true,
             ImportKind::DynamicImport => self.splitting_off,

@@ -39,6 +39,7 @@ pub enum Helper {
 }
 
 impl Helper {
+    // By cases: a word is no number that a discriminant could be.
     pub fn text(self) -> &'static str
         ensures { result.now ≡ helper_text self }
     {

@@ -13,6 +13,7 @@ use marks::{AwaitRow, LinkOptions, MarkRow, WrapperRow};
 use settled::Asked;
 use source::ModuleSource;
 
+// Source, options, marks, lists and calls are the caller's own, each for itself; what calls work with is one struct.
 /// Begins, makes the calls in their order, and finishes. Finish is accepted only once all is settled, whatever the order
 /// of the calls was, and so are then the marks.
 pub fn run_to_end<S: ModuleSource>(

@@ -183,7 +183,7 @@ pub fn no_record() -> ImportRecord
     }
 }
 
-/// A source that is lent is a source.
+/// A source that is lent is a source. Each question is handed on as it is.
 impl<'a, S: ModuleSource> ModuleSource for &'a S {
     ghost meaning = { λ s. S.ModuleSource.meaning s.now };
 

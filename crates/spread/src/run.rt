@@ -86,6 +86,7 @@ fn settle<F: Fact>(facts: &mut [F], arrows: &[Arrow])
     requires { AllInside (length facts.old) arrows.now }
     ensures { Spread F.zero F.join arrows.now facts.old facts.new }
 {
+    // Rounds are counted, and index nothing.
     for round in 0..facts.len() {
         if !sweep(facts, arrows, round % 2 == 1) {
             return;

@@ -27,6 +27,7 @@ impl Fact for YesNo {
         YesNo(false)
     }
 
+    // As for entry sets: one impl for both would need a trait of what can be or-ed.
     fn joined(self, other: YesNo) -> YesNo {
         YesNo(self.0 | other.0)
     }

@@ -45,7 +45,7 @@ impl fmt::Display for Shape {
     }
 }
 
-// The next of a fixed row of numbers that look random.
+// The next of a fixed row of numbers that look random. `full_size` has its own: programs share no library of such things.
 fn next_number(state: u64) -> u64 {
     state
         .wrapping_mul(6364136223846793005)

@@ -57,6 +57,7 @@ pub fn point_at<S: ModuleSource>(source: &S, pick: Pick, from: &[YesNo], flags: 
     requires targets { Targets (S.meaning source.now) }
     ensures { PointedAt pick (S.meaning source.now) (flag from.now) flags.old flags.new }
 {
+    // A source answers by number, and flags are written at its targets, in no order of their own.
     for m in 0..source.module_count() {
         let Module::Normal(_) = source.module(m) else {
             continue;
