@@ -222,9 +222,6 @@ readable bs a bytes = record {
 -- from a meaning to its card and back
 
 module _ (first count total : ℕ) (few : total ≤ 32768) (h : first + count ≤ total) where
-  first_fits : Fits32 first
-  first_fits = omega arith
-
   count_fits : Fits32 count
   count_fits = omega arith
 

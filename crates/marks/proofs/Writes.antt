@@ -11,9 +11,6 @@ use Rattle.marks.specs.Rules.{agrees, is_wrapped, wrap_of, read_wrap, cleared}
 use Rattle.marks.specs.Rows.{row_at, Raised, Written}
 
 module _ (Row : ℕ → MarkRow → MarkRow → Type 0) where
-  pub written_none : (rows : List MarkRow) → Written 0 Row rows rows
-  written_none rows = record { long = refl; each = λ m h. absurd (omega arith); rest = λ m h. refl }
-
   pub written_more : (n : ℕ) (old cur : List MarkRow) (row : MarkRow) → n < length cur → Row n (row_at cur n) row → Written n Row old cur → Written (n + 1) Row old (set cur n row)
   written_more n old cur row h here w = record { long = length-set cur n row ∙ w.long; each = each; rest = rest }
     where

@@ -1,8 +1,7 @@
 -- The verdict on one row, and on all of them, from what the code tests. Assumes nothing.
 use Rattle.std.proofs.Common.{◌≡◌, ℕ, zero, suc, ◌<◌, ◌≤◌, true, false, not, eqb, ltb, List, length, get_or, take, drop, Ok, Err, refl, ◌∙◌, add-one, arith}
-use Rattle.std.proofs.lemmas.Bool.{not_from_true, not_from_false, eq-eqb, ne_eqb, lt-ltb, le-ltb}
-use Rattle.faults.specs.declared.Fault.{Fault}
-use Rattle.faults.specs.declared.Refusal.TheVariants.{TooManyModules, TooManyRecords, FieldOutOfValues, WrongFirstRecord}
+use Rattle.std.proofs.lemmas.Bool.{not_from_true, not_from_false, eq-eqb, ne_eqb, le-ltb}
+use Rattle.faults.specs.declared.Refusal.TheVariants.{TooManyRecords, FieldOutOfValues, WrongFirstRecord}
 use Rattle.faults.specs.Faults.{Verdict, refuse_if, and_then, each}
 use Rattle.faults.proofs.Checks.{refuses, passes, first_refuses, first_passes, each_passes}
 use Rattle.source.specs.declared.ImportRecord.{ImportRecord}
@@ -54,37 +53,17 @@ module _ (modules : List ModuleRow) (records : List ImportRecord) where
   rest : Verdict
   rest = and_then (each (module_row_verdict modules) 0 modules) (and_then (each record_row_verdict 0 records) (last_sum_verdict modules (length records)))
 
-  pub too_many_modules : module_limit < length modules → rows_verdict modules records ≡ Err (row_fault TooManyModules 0)
-  too_many_modules h = first_refuses _ _ _ (refuses _ _ (lt-ltb _ _ h))
-
   module _ (few : length modules ≤ module_limit) where
     modules_pass : rows_verdict modules records ≡ and_then (refuse_if (ltb record_limit (length records)) (row_fault TooManyRecords 0)) rest
     unfolding rest
     modules_pass = first_passes _ _ (passes _ _ (le-ltb _ _ few))
 
-    pub too_many_records : record_limit < length records → rows_verdict modules records ≡ Err (row_fault TooManyRecords 0)
-    too_many_records h = modules_pass ∙ first_refuses _ rest _ (refuses _ _ (lt-ltb _ _ h))
-
     module _ (short : length records ≤ record_limit) where
       records_pass : rows_verdict modules records ≡ rest
       records_pass = modules_pass ∙ first_passes _ rest (passes _ _ (le-ltb _ _ short))
 
-      pub module_row_decides : (f : Fault) → each (module_row_verdict modules) 0 modules ≡ Err f → rows_verdict modules records ≡ Err f
-      unfolding rest
-      module_row_decides f e = records_pass ∙ first_refuses _ _ f e
-
       module _ (ok : each (module_row_verdict modules) 0 modules ≡ Ok tt) where
-        pub record_row_decides : (f : Fault) → each record_row_verdict 0 records ≡ Err f → rows_verdict modules records ≡ Err f
-        unfolding rest
-        record_row_decides f e = records_pass ∙ first_passes _ _ ok ∙ first_refuses _ _ f e
-
         module _ (sound : each record_row_verdict 0 records ≡ Ok tt) where
           pub last_sum_decides : rows_verdict modules records ≡ last_sum_verdict modules (length records)
           unfolding rest
           last_sum_decides = records_pass ∙ first_passes _ _ ok ∙ first_passes _ _ sound
-
-          pub last_sum_refused : (total modules ≡ length records → ⊥) → rows_verdict modules records ≡ Err (row_fault WrongFirstRecord (length modules))
-          last_sum_refused ne = last_sum_decides ∙ refuses _ _ (not_from_false _ (ne_eqb _ _ ne))
-
-          pub last_sum_passes : total modules ≡ length records → rows_verdict modules records ≡ Ok tt
-          last_sum_passes e = last_sum_decides ∙ passes _ _ (not_from_true _ (eq-eqb _ _ e))

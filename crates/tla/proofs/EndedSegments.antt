@@ -29,9 +29,6 @@ module _ (w : Meaning) (ends : List ℕ) (arrows : List Arrow) (laid : LaidByEnd
       omega (arith, all, begins)
 
   module _ (i : ℕ) (lo : first ≤ i) (hi : i < get_or ends m 0) where
-    pub arrow_below : i < length arrows
-    arrow_below = omega (arith, laid.stops m h, before_fits w (m + 1), laid.fits)
-
     place : i - first < length (imports_of w m)
     place = omega (arith, last_import)
 

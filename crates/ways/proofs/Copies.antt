@@ -25,9 +25,6 @@ abbrev pub Within : ℕ → ℕ → ℕ → ℕ → Type 0
 Within m k a j = (a < m) ⊎ ((a ≡ m) × (j < k))
 
 module _ (way : Way) (w : Meaning) where
-  pub copied_none : (rows : List Arrow) → CopiedUpTo (Before 0) way w rows 0
-  copied_none rows = record { sound = λ i h. absurd (omega arith); full = λ a j t kind d l. absurd (omega arith) }
-
   copied_as : (D E : ℕ → ℕ → Type 0) (rows : List Arrow) (n : ℕ) → ((a j t : ℕ) (kind : ImportKind) → E a j → Leaving way w a j kind t → D a j) → CopiedUpTo D way w rows n → CopiedUpTo E way w rows n
   copied_as D E rows n f c = record { sound = c.sound; full = λ a j t kind e l. c.full a j t kind (f a j t kind e l) l }
 

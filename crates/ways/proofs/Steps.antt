@@ -68,9 +68,6 @@ module _ (w : Meaning) (a b : ℕ) where
 
 -- a yes comes from a start that leads there
 module _ (way : Way) (w : Meaning) (old new : List YesNo) (c : Carried plain_no either way w old new) where
-  pub carried_long : length new ≡ length old
-  carried_long = c.spread.long
-
   pub carried_from : (p : ℕ) → p < length old → flag new p ≡ true → (q : ℕ) × Leading way w q p × (flag old q ≡ true)
   carried_from p h e = let f = yes_from c.rows old new c.spread p h e in (f.0, (c.leads f.0 p).0 f.1, f.2)
 

@@ -34,9 +34,6 @@ raised_also r s = record {
 }
 
 module _ (C : ℕ → ℕ → ℕ → Type 0) where
-  pub marked_none : (f : ℕ → Bool) → Marked (Before 0) C f f
-  marked_none f t = raised_same (λ s. omega (arith, s.2))
-
   pub marked_start : (m : ℕ) (f : ℕ → Bool) → Marked (Only m 0) C f f
   marked_start m f t = raised_same (λ s. omega (arith, s.2.1))
 
