@@ -72,6 +72,7 @@ fn write_arrows<S: ModuleSource>(
     source: &S,
     m: usize,
 ) -> Result<(), AllocError> {
+    // A source is asked by numbers, and has no iterator.
     for k in 0..source.record_count(m) {
         let record = source.record(m, k);
         if let Some(t) = record.target {

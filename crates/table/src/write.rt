@@ -22,6 +22,7 @@ pub fn write_table<S: ModuleSource>(heap: Global, source: &S) -> Result<String, 
 fn write_modules<S: ModuleSource>(out: &mut String, source: &S) -> Result<(), AllocError> {
     let runtime = source.runtime();
     writeln!(out, "runtime {runtime}")?;
+    // A source is asked by numbers, and has no iterator.
     for m in 0..source.module_count() {
         match source.module(m) {
             Module::External => write!(out, "external")?,
