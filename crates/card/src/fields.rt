@@ -5,6 +5,7 @@ ghost use Rattle.card.specs.Fields.{exports_of, import_of, flag_of, target_of, m
 use crate::bytes::{u16_at, u32_at};
 use source::{ExportsKind, ImportKind, ImportRecord, Module, NormalModule, Span};
 
+// One function a field, since each kind has its own number past the last.
 fn exports_of(number: u8) -> ExportsKind
     ensures { result ≡ exports_of number }
 {

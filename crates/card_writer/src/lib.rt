@@ -46,6 +46,7 @@ fn write_records_of<S: ModuleSource>(source: &S, m: usize, out: &mut [u8], at: u
     ensures image { out.new ≡ put_at out.old at (concat (map encode_record (records_of (S.ModuleSource.meaning source.now) m))) }
     ensures fits { AllByRecursion SpanFits (records_of (S.ModuleSource.meaning source.now) m) }
 {
+    // A source is asked by numbers, and has no iterator.
     for k in 0..source.record_count(m) {
         let block = record_block(source.record(m, k));
         put(out, at + 18 * k, &block);

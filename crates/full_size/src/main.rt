@@ -17,6 +17,7 @@ use std::env;
 use std::time::Instant;
 use tally::Tally;
 
+// As plain as those of `link_words`, which this program does not need.
 const OPTIONS: LinkOptions = LinkOptions {
     format: OutputFormat::Esm,
     splitting_off: false,

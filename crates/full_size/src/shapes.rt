@@ -46,7 +46,7 @@ pub struct Rows {
     pub records: Vec<ImportRecord>,
 }
 
-// The next of a fixed row of numbers that look random.
+// The next of a fixed row of numbers that look random. `spread_bench` has its own: programs share no library of such things.
 fn next_number(state: u64) -> u64 {
     state
         .wrapping_mul(6364136223846793005)
@@ -121,6 +121,7 @@ fn next_of(m: u32) -> u32 {
 
 fn add_random(records: &mut Vec<ImportRecord>, state: u64) -> Result<(), AllocError> {
     let mut state = state;
+    // Eight are made, and nothing is indexed.
     for _ in 0..8 {
         state = next_number(state);
         records.push(random_record(state))?;
@@ -174,6 +175,7 @@ pub fn rows_of(heap: Global, shape: Shape) -> Result<Rows, AllocError> {
         records: Vec::new(heap),
     };
     let mut state: u64 = 7;
+    // Modules are made by number, and nothing is indexed.
     for m in 0..MODULES {
         state = next_number(state);
         let described = described(shape, m, state);

@@ -79,6 +79,7 @@ fn tell<S: ModuleSource>(
         }
         Told::Graph => match accepted_run(heap, source, asked) {
             Ok(done) => Ok(Report::quiet(heap, dot_text(heap, source, &done)?, false)),
+            // By hand: a fault is told with the file's name, and memory without.
             Err(ListError::Memory) => Err(AllocError.into()),
             Err(ListError::Refused(fault)) => in_file(heap, path, Err(Explained(fault))),
         },

@@ -93,6 +93,7 @@ pub fn dot_text<S: ModuleSource>(
     for (m, row) in done.marks.as_slice().iter().enumerate() {
         write_node(&mut text, m, source.module(m), *row)?;
     }
+    // Arrows come after all nodes, by the number of their module.
     for m in 0..done.marks.len() {
         write_arrows(&mut text, source, m)?;
     }

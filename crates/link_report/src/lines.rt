@@ -90,6 +90,7 @@ pub fn link_report<S: ModuleSource>(
     asked: &LinkWords,
 ) -> Result<LinkReport, AllocError> {
     match run_list(heap, source, asked.options, asked.passes.as_slice()) {
+        // By hand, since of a list's errors only this one is an error here.
         Err(ListError::Memory) => Err(AllocError),
         Err(ListError::Refused(fault)) => {
             let name = "begin";
