@@ -35,11 +35,9 @@ pub fn classify<S: ModuleSource>(
 {
     let done = run_list(heap, source, options, &PASSES)?;
     if let Some(fault) = done.refused_pass() {
-        return Err(ListError::Refused(fault));
+        return Err(fault.into());
     }
-    if let Err(fault) = done.finish {
-        return Err(ListError::Refused(fault));
-    }
+    done.finish?;
     Ok(Classified {
         marks: done.marks,
         awaits: done.awaits,

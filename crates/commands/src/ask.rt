@@ -7,7 +7,7 @@ use crate::errors::CommandError;
 use crate::files::{read_contents, read_interop_file};
 use crate::report::Report;
 use faults::Fault;
-use interop::{ChunkAssignments, Question};
+use interop::{ChunkAssignments, ImportRow, Question};
 use interop_rows::use_word;
 use source::ModuleSource;
 use spread::InteropUse;
@@ -58,11 +58,14 @@ impl fmt::Display for Answers {
     }
 }
 
-fn answer<S: ModuleSource>(question: &Question<'_, S>) -> Result<Answers, Fault> {
+fn answer<S: ModuleSource>(
+    question: &Question<'_, S>,
+    imports: &[ImportRow],
+) -> Result<Answers, Fault> {
     Ok(Answers {
-        reader: question.reader()?,
+        reader: question.reader(imports)?,
         recorded: question.recorded_use()?,
-        modes: question.modes()?,
+        modes: question.modes(imports)?,
     })
 }
 
@@ -83,14 +86,14 @@ pub fn interop(
     let rows = read_interop_file(rt, rows_path)?;
     let source = source_in(heap, path, &contents)?;
     let chunks = ChunkAssignments::new(rows.assigned.as_slice(), rows.removed.as_slice());
-    let answers = answer(&Question {
+    let question = Question {
         source: &source,
         chunks,
         observers: rows.observers.as_slice(),
-        imports: rows.imports.as_slice(),
         namespace: asked.namespace,
         chunk: asked.chunk,
-    });
+    };
+    let answers = answer(&question, rows.imports.as_slice());
     let out = match answers {
         Ok(answers) => format!(in heap; "interop {answers}\n")?,
         Err(fault) => format!(in heap; "interop answer=refused {fault}\n")?,

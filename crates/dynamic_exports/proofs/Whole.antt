@@ -6,7 +6,7 @@ use Rattle.source.specs.Meaning.{Meaning, count_of}
 use Rattle.marks.specs.declared.options.LinkOptions.{LinkOptions}
 use Rattle.marks.specs.declared.rows.MarkRow.{MarkRow}
 use Rattle.marks.specs.Passes.{StarDid, OpenExports}
-use Rattle.marks.specs.Records.{HasStar, Leads, here, along}
+use Rattle.marks.specs.Records.{Leads, here, along}
 use Rattle.marks.specs.Records as records
 use Rattle.marks.specs.Rules.{agrees, is_wrapped, read_wrap}
 use Rattle.marks.specs.Rows.{row_at, kind_in, Written}

@@ -3,7 +3,7 @@
 --   after_record     a record of this kind is resolved to the normal module n
 --   after_importer   the records of the normal module n are done; after_importer_of by its kind
 --   ReadUpTo         the rows below n are written as they read, and no others
-use Rattle.std.specs.Prelude.{◌≡◌, ℕ, ◌<◌, ◌≤◌, ◌||◌, List, length}
+use Rattle.std.specs.Prelude.{◌≡◌, ℕ, ◌||◌, List}
 use Rattle.source.specs.declared.ImportKind.{ImportKind}
 use Rattle.source.specs.declared.ExportsKind.{ExportsKind}
 use Rattle.source.specs.declared.ExportsKind.TheVariants.{None as Unknown, Esm, CommonJs}
@@ -12,7 +12,7 @@ use Rattle.marks.specs.declared.options.LinkOptions.{LinkOptions}
 use Rattle.marks.specs.declared.rows.MarkRow.{MarkRow}
 use Rattle.marks.specs.Records.{acts_as_require}
 use Rattle.marks.specs.Rules.{is_wrapped, read_row, marked_row}
-use Rattle.marks.specs.Rows.{row_at}
+use Rattle.marks.specs.Rows.{Written}
 use Rattle.marks.specs.Kinds.{or_else, makes, importer_rule}
 
 abbrev pub after_record : LinkOptions → NormalModule → ImportKind → MarkRow → MarkRow
@@ -27,7 +27,5 @@ after_importer_of o n CommonJs row = marked_row row CommonJs (importer_rule o n 
 abbrev pub after_importer : LinkOptions → NormalModule → MarkRow → MarkRow
 after_importer o n row = after_importer_of o n row.kind row
 
-pub record ReadUpTo (n : ℕ) (old new : List MarkRow) : Type 0 where
-  pub long : length new ≡ length old
-  pub each : (m : ℕ) → m < n → row_at new m ≡ read_row (row_at old m)
-  pub rest : (m : ℕ) → n ≤ m → row_at new m ≡ row_at old m
+abbrev pub ReadUpTo : ℕ → List MarkRow → List MarkRow → Type 0
+ReadUpTo n old new = Written n (λ m before after. after ≡ read_row before) old new

@@ -1,5 +1,6 @@
 -- The laws of joining, and a fold that joins what rows come to. Assumes nothing.
-use Rattle.std.proofs.Common.{◌≡◌, Bool, false, ◌||◌, List, [], ◌∷◌, ◌++◌, Some, None, Option, sym, refl, ap, ◌∙◌}
+use Rattle.std.proofs.Common.{◌≡◌, ℕ, ◌+◌, ◌<◌, ◌≤◌, Bool, false, ◌||◌, List, [], ◌∷◌, length, get_or, drop, Some, None, Option, sym, refl, ap, ◌∙◌}
+use Rattle.std.proofs.lemmas.List.{at_drop_more, at_drop_all}
 use mathlib.Core.Bool.{or_assoc, or_comm, or_self}
 use Rattle.spread.specs.declared.interop_use.InteropUse.{InteropUse}
 use Rattle.spread.specs.Kinds.{no_use, use_join}
@@ -39,7 +40,17 @@ pub any_joined : {Row : Type 0} (test : Row → Bool) (rows : List Row) → any 
 any_joined test [] = refl
 any_joined test (row ∷ rows) = ap (λ (b : Bool). test row || b) (any_joined test rows)
 
--- one more row, as at a step of a fold that joins what each row comes to
-pub all_uses_more : {Row : Type 0} (of : Row → Option InteropUse) (rows : List Row) (row : Row) → all_uses of (rows ++ (row ∷ [])) ≡ use_join (all_uses of rows) (of row)
-all_uses_more of [] row = zero_below use_laws (of row)
-all_uses_more of (x ∷ rows) row = ap (use_join (of x)) (all_uses_more of rows row) ∙ sym (use_assoc (of x) (all_uses of rows) (of row))
+-- the rows before the i-th come to `found`
+abbrev pub JoinedTo : {Row : Type 0} → (Row → Option InteropUse) → List Row → ℕ → Option InteropUse → Type 0
+JoinedTo of rows i found = use_join found (all_uses of (drop i rows)) ≡ all_uses of rows
+
+module _ {Row : Type 0} (of : Row → Option InteropUse) (rows : List Row) (i : ℕ) (found : Option InteropUse) (so_far : JoinedTo of rows i found) where
+  pub joined_more : (d : Row) (new : Option InteropUse) → i < length rows → new ≡ use_join found (of (get_or rows i d)) → JoinedTo of rows (i + 1) new
+  joined_more d new h is =
+      ap (λ (u : Option InteropUse). use_join u (all_uses of (drop (i + 1) rows))) is
+      ∙ use_assoc found (of (get_or rows i d)) (all_uses of (drop (i + 1) rows))
+      ∙ ap (use_join found) (sym (at_drop_more (all_uses of) rows i d h))
+      ∙ so_far
+
+  pub joined_all : length rows ≤ i → found ≡ all_uses of rows
+  joined_all h = sym (zero_below use_laws found) ∙ ap (use_join found) (sym (at_drop_all (all_uses of) rows i h)) ∙ so_far

@@ -11,18 +11,17 @@ ghost use Rattle.interop.specs.Tells.{Observed, Written, NodeObserved, NodeWritt
 use crate::check::check_each;
 use crate::chunk_assignments::ChunkAssignments;
 use crate::rows::{ImportRow, ObserverRow, Specifier};
+use crate::uses::joined_uses;
 use faults::Fault;
 use source::{Module, ModuleSource};
 use spread::{Fact, InteropUse};
 
-/// What is asked about: an external module, by its namespace, in a chunk, by the rows of observers and the imports that are
-/// written in the chunk.
+/// What is asked about: an external module, by its namespace, in a chunk, by the rows of observers.
 #[derive(Drop)]
 pub struct Question<'a, S: ModuleSource> {
     pub source: &'a S,
     pub chunks: ChunkAssignments<'a>,
     pub observers: &'a [ObserverRow],
-    pub imports: &'a [ImportRow],
     pub namespace: u32,
     pub chunk: u32,
 }
@@ -77,21 +76,13 @@ impl<'a, S: ModuleSource> Question<'a, S> {
     fn observed_uses(&self) -> Option<InteropUse>
         ensures { result ≡ recorded_use_of self.now.chunks self.now.namespace self.now.chunk self.now.observers.now }
     {
-        self.observers
-            .iter()
-            .fold(None, |uses: Option<InteropUse>, row| {
-                uses.joined(self.observed_use(row))
-            })
+        joined_uses(self.observers, |row| self.observed_use(row))
     }
 
-    fn written_uses(&self) -> Option<InteropUse>
-        ensures { result ≡ all_uses (written (S.meaning self.now.source.now)) self.now.imports.now }
+    fn written_uses(&self, imports: &[ImportRow]) -> Option<InteropUse>
+        ensures { result ≡ all_uses (written (S.meaning self.now.source.now)) imports.now }
     {
-        self.imports
-            .iter()
-            .fold(None, |uses: Option<InteropUse>, row| {
-                uses.joined(self.written_use(row))
-            })
+        joined_uses(imports, |row| self.written_use(row))
     }
 
     fn has_node_observer(&self) -> bool
@@ -102,11 +93,10 @@ impl<'a, S: ModuleSource> Question<'a, S> {
             .any(|row| self.counts(row) && self.is_node_esm(row.observer))
     }
 
-    fn has_node_importer(&self) -> bool
-        ensures { result ≡ any (node_importer (S.meaning self.now.source.now)) self.now.imports.now }
+    fn has_node_importer(&self, imports: &[ImportRow]) -> bool
+        ensures { result ≡ any (node_importer (S.meaning self.now.source.now)) imports.now }
     {
-        self.imports.iter().any(|row| needs_interop(row.specifier)
-            && self.is_node_esm(row.importer))
+        imports.iter().any(|row| needs_interop(row.specifier) && self.is_node_esm(row.importer))
     }
 
     fn check_observers(&self) -> Result<(), Fault>
@@ -115,17 +105,17 @@ impl<'a, S: ModuleSource> Question<'a, S> {
         check_each(self.source, self.observers, |row| row.observer)
     }
 
-    fn check_imports(&self) -> Result<(), Fault>
-        ensures { result ≡ imports_verdict (S.meaning self.now.source.now) self.now.imports.now }
+    fn check_imports(&self, imports: &[ImportRow]) -> Result<(), Fault>
+        ensures { result ≡ imports_verdict (S.meaning self.now.source.now) imports.now }
     {
-        check_each(self.source, self.imports, |row| row.importer)
+        check_each(self.source, imports, |row| row.importer)
     }
 
     // Observer rows before import rows, those of every namespace.
-    fn check_rows(&self) -> Result<(), Fault>
-        ensures { result ≡ rows_verdict (S.meaning self.now.source.now) self.now.observers.now self.now.imports.now }
+    fn check_rows(&self, imports: &[ImportRow]) -> Result<(), Fault>
+        ensures { result ≡ rows_verdict (S.meaning self.now.source.now) self.now.observers.now imports.now }
     {
-        self.check_observers().and(self.check_imports())
+        self.check_observers().and(self.check_imports(imports))
     }
 
     /// What the namespace was seen to be used for by modules that could be in the chunk; none where there is no such module.
@@ -141,24 +131,24 @@ impl<'a, S: ModuleSource> Question<'a, S> {
 
     /// What the chunk has to wrap the external module for: its recorded use and the imports that are written in the chunk.
     #[tactic(auto, using(crate::proofs::Tells::modes_tell, crate::proofs::Orders::modes_of_rows))]
-    pub fn modes(&self) -> Result<Option<InteropUse>, Fault>
-        ensures answer { result ≡ modes_answer (S.meaning self.now.source.now) self.now.chunks self.now.namespace self.now.chunk self.now.observers.now self.now.imports.now }
-        ensures tells { Together (λ u. Observed self.now.chunks self.now.namespace self.now.chunk self.now.observers.now u ⊎ Written (S.meaning self.now.source.now) self.now.imports.now u) (modes_of (S.meaning self.now.source.now) self.now.chunks self.now.namespace self.now.chunk self.now.observers.now self.now.imports.now) }
+    pub fn modes(&self, imports: &[ImportRow]) -> Result<Option<InteropUse>, Fault>
+        ensures answer { result ≡ modes_answer (S.meaning self.now.source.now) self.now.chunks self.now.namespace self.now.chunk self.now.observers.now imports.now }
+        ensures tells { Together (λ u. Observed self.now.chunks self.now.namespace self.now.chunk self.now.observers.now u ⊎ Written (S.meaning self.now.source.now) imports.now u) (modes_of (S.meaning self.now.source.now) self.now.chunks self.now.namespace self.now.chunk self.now.observers.now imports.now) }
         ensures rows { OfBothRows (modes_answer (S.meaning self.now.source.now) self.now.chunks self.now.namespace self.now.chunk) }
     {
-        self.check_rows()?;
-        Ok(self.observed_uses().joined(self.written_uses()))
+        self.check_rows(imports)?;
+        Ok(self.observed_uses().joined(self.written_uses(imports)))
     }
 
     /// Whether a module that could be in the chunk reads the external module as Node.js does: the use that was recorded tells
     /// how an import was written, which can be in another module than the one that reads.
     #[tactic(auto, using(crate::proofs::Tells::reader_tells, crate::proofs::Orders::reader_of_rows))]
-    pub fn reader(&self) -> Result<bool, Fault>
-        ensures answer { result ≡ reader_answer (S.meaning self.now.source.now) self.now.chunks self.now.namespace self.now.chunk self.now.observers.now self.now.imports.now }
-        ensures tells { (reader_of (S.meaning self.now.source.now) self.now.chunks self.now.namespace self.now.chunk self.now.observers.now self.now.imports.now ≡ true) ↔ (NodeObserved (S.meaning self.now.source.now) self.now.chunks self.now.namespace self.now.chunk self.now.observers.now ⊎ NodeWritten (S.meaning self.now.source.now) self.now.imports.now) }
+    pub fn reader(&self, imports: &[ImportRow]) -> Result<bool, Fault>
+        ensures answer { result ≡ reader_answer (S.meaning self.now.source.now) self.now.chunks self.now.namespace self.now.chunk self.now.observers.now imports.now }
+        ensures tells { (reader_of (S.meaning self.now.source.now) self.now.chunks self.now.namespace self.now.chunk self.now.observers.now imports.now ≡ true) ↔ (NodeObserved (S.meaning self.now.source.now) self.now.chunks self.now.namespace self.now.chunk self.now.observers.now ⊎ NodeWritten (S.meaning self.now.source.now) imports.now) }
         ensures rows { OfBothRows (reader_answer (S.meaning self.now.source.now) self.now.chunks self.now.namespace self.now.chunk) }
     {
-        self.check_rows()?;
-        Ok(self.has_node_observer() || self.has_node_importer())
+        self.check_rows(imports)?;
+        Ok(self.has_node_observer() || self.has_node_importer(imports))
     }
 }

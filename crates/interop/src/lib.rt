@@ -5,6 +5,7 @@ mod check;
 mod chunk_assignments;
 mod external_import_interop;
 mod rows;
+mod uses;
 
 pub use chunk_assignments::ChunkAssignments;
 pub use external_import_interop::Question;

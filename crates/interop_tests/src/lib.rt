@@ -64,7 +64,6 @@ mod tests {
         source: &'a RowSource<'a>,
         chunks: ChunkAssignments<'a>,
         observers: &'a [ObserverRow],
-        imports: &'a [ImportRow],
         namespace: u32,
         chunk: u32,
     ) -> Question<'a, RowSource<'a>> {
@@ -72,7 +71,6 @@ mod tests {
             source,
             chunks,
             observers,
-            imports,
             namespace,
             chunk,
         }
@@ -88,21 +86,18 @@ mod tests {
             observer(1, used(true, false)),
         ];
         assert_eq!(rt;
-            ask(&source, chunks, &rows, &[], WINCH, 0).recorded_use(),
+            ask(&source, chunks, &rows, WINCH, 0).recorded_use(),
             Ok(Some(used(false, true)))
         );
         assert_eq!(rt;
-            ask(&source, chunks, &rows, &[], WINCH, 5).recorded_use(),
+            ask(&source, chunks, &rows, WINCH, 5).recorded_use(),
             Ok(Some(used(true, false)))
         );
         assert_eq!(rt;
-            ask(&source, chunks, &rows, &[], WINCH, 6).recorded_use(),
+            ask(&source, chunks, &rows, WINCH, 6).recorded_use(),
             Ok(None)
         );
-        assert_eq!(rt;
-            ask(&source, chunks, &rows, &[], 8, 0).recorded_use(),
-            Ok(None)
-        );
+        assert_eq!(rt; ask(&source, chunks, &rows, 8, 0).recorded_use(), Ok(None));
     }
 
     // Module 0 has no chunk, the chunk of 1 was removed, and 3 is past the end of the list.
@@ -115,17 +110,17 @@ mod tests {
         assert_eq!(rt; chunks.live_chunk(3), None);
         let unassigned = [observer(0, used(false, true))];
         assert_eq!(rt;
-            ask(&source, chunks, &unassigned, &[], WINCH, 9).recorded_use(),
+            ask(&source, chunks, &unassigned, WINCH, 9).recorded_use(),
             Ok(Some(used(false, true)))
         );
         let removed = [observer(1, used(true, false))];
         assert_eq!(rt;
-            ask(&source, chunks, &removed, &[], WINCH, 9).recorded_use(),
+            ask(&source, chunks, &removed, WINCH, 9).recorded_use(),
             Ok(Some(used(true, false)))
         );
         let past = [observer(3, used(false, false))];
         assert_eq!(rt;
-            ask(&source, chunks, &past, &[], WINCH, 9).recorded_use(),
+            ask(&source, chunks, &past, WINCH, 9).recorded_use(),
             Ok(Some(used(false, false)))
         );
     }
@@ -137,17 +132,17 @@ mod tests {
         let chunks = ChunkAssignments::new(&[], &[]);
         let star = [import(0, Specifier::Namespace)];
         assert_eq!(rt;
-            ask(&source, chunks, &[], &star, WINCH, 0).modes(),
+            ask(&source, chunks, &[], WINCH, 0).modes(&star),
             Ok(Some(used(false, true)))
         );
         let default = [import(1, Specifier::Default)];
         assert_eq!(rt;
-            ask(&source, chunks, &[], &default, WINCH, 0).modes(),
+            ask(&source, chunks, &[], WINCH, 0).modes(&default),
             Ok(Some(used(true, false)))
         );
         let external = [import(2, Specifier::Default)];
         assert_eq!(rt;
-            ask(&source, chunks, &[], &external, WINCH, 0).modes(),
+            ask(&source, chunks, &[], WINCH, 0).modes(&external),
             Ok(Some(used(false, true)))
         );
     }
@@ -159,15 +154,12 @@ mod tests {
         let chunks = ChunkAssignments::new(&[], &[]);
         let named = [import(1, Specifier::Named(3))];
         assert_eq!(rt;
-            ask(&source, chunks, &[], &[], WINCH, 0).recorded_use(),
+            ask(&source, chunks, &[], WINCH, 0).recorded_use(),
             Ok(None)
         );
+        assert_eq!(rt; ask(&source, chunks, &[], WINCH, 0).modes(&named), Ok(None));
         assert_eq!(rt;
-            ask(&source, chunks, &[], &named, WINCH, 0).modes(),
-            Ok(None)
-        );
-        assert_eq!(rt;
-            ask(&source, chunks, &[], &named, WINCH, 0).reader(),
+            ask(&source, chunks, &[], WINCH, 0).reader(&named),
             Ok(false)
         );
     }
@@ -180,15 +172,15 @@ mod tests {
         let seen = observer(0, used(true, false));
         let star = import(3, Specifier::Namespace);
         assert_eq!(rt;
-            ask(&source, chunks, &[seen], &[star], WINCH, 0).modes(),
+            ask(&source, chunks, &[seen], WINCH, 0).modes(&[star]),
             Ok(Some(used(true, true)))
         );
         assert_eq!(rt;
-            ask(&source, chunks, &[seen, seen], &[star, star], WINCH, 0).modes(),
+            ask(&source, chunks, &[seen, seen], WINCH, 0).modes(&[star, star]),
             Ok(Some(used(true, true)))
         );
         assert_eq!(rt;
-            ask(&source, chunks, &[seen, seen], &[star, star], WINCH, 0).reader(),
+            ask(&source, chunks, &[seen, seen], WINCH, 0).reader(&[star, star]),
             Ok(false)
         );
     }
@@ -201,19 +193,13 @@ mod tests {
         let chunks = ChunkAssignments::new(&[], &[]);
         let other = [observer(0, used(true, false))];
         assert_eq!(rt;
-            ask(&source, chunks, &other, &[], WINCH, 0).reader(),
+            ask(&source, chunks, &other, WINCH, 0).reader(&[]),
             Ok(false)
         );
         let node = [observer(1, used(false, true))];
-        assert_eq!(rt;
-            ask(&source, chunks, &node, &[], WINCH, 0).reader(),
-            Ok(true)
-        );
+        assert_eq!(rt; ask(&source, chunks, &node, WINCH, 0).reader(&[]), Ok(true));
         let star = [import(1, Specifier::Namespace)];
-        assert_eq!(rt;
-            ask(&source, chunks, &[], &star, WINCH, 0).reader(),
-            Ok(true)
-        );
+        assert_eq!(rt; ask(&source, chunks, &[], WINCH, 0).reader(&star), Ok(true));
     }
 
     #[test]
@@ -225,19 +211,19 @@ mod tests {
         let past = observer(4, used(false, false));
         let named = [import(9, Specifier::Named(0))];
         assert_eq!(rt;
-            ask(&source, chunks, &[last, past], &[], 0, 0).recorded_use(),
+            ask(&source, chunks, &[last, past], 0, 0).recorded_use(),
             Err(past_source(1))
         );
         assert_eq!(rt;
-            ask(&source, chunks, &[last, past], &named, 0, 0).modes(),
+            ask(&source, chunks, &[last, past], 0, 0).modes(&named),
             Err(past_source(1))
         );
         assert_eq!(rt;
-            ask(&source, chunks, &[last], &named, 0, 0).modes(),
+            ask(&source, chunks, &[last], 0, 0).modes(&named),
             Err(past_source(0))
         );
         assert_eq!(rt;
-            ask(&source, chunks, &[last], &named, 0, 0).reader(),
+            ask(&source, chunks, &[last], 0, 0).reader(&named),
             Err(past_source(0))
         );
     }

@@ -58,7 +58,7 @@ fn accepted_run<S: ModuleSource>(
 ) -> Result<ListRun, ListError> {
     let done = run_list(heap, source, asked.options, asked.passes.as_slice())?;
     match done.refused_pass() {
-        Some(fault) => Err(ListError::Refused(fault)),
+        Some(fault) => Err(fault.into()),
         None => Ok(done),
     }
 }

@@ -173,7 +173,7 @@ pub fn run_list<S: ModuleSource>(
         wrappers.as_mut_slice(),
     );
     if let Some(fault) = refused_begin(finish) {
-        return Err(ListError::Refused(fault));
+        return Err(fault.into());
     }
     awaits.truncate(await_rows(calls.as_slice()));
     wrappers.truncate(finish.unwrap_or(0));

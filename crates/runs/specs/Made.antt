@@ -3,7 +3,7 @@
 --   At              what stands between two calls: the link, the marks, and the list of await rows
 --   call_of         the call that a pass is
 --   shortest, places_of   the shortest of the lent work slices that have a place for each module
---   SameSizes       work slices are as long as they were
+--   SameSizes       each work slice is as long as it was
 --   work_of, lent_to   what a pass is lent: kinds works with no slices
 --   Answers         the answer that the link gives at that stage
 --   ListAfter       only await writes rows
@@ -59,8 +59,12 @@ abbrev pub places_of : Work → ℕ
 places_of work = shortest (length work.facts.now) (length work.flags.now) (length work.sets.now) (length work.ends.now) (length work.found.now)
 
 pub record SameSizes (old new : Work) : Type 0 where
+  pub facts : length new.facts.now ≡ length old.facts.now
+  pub flags : length new.flags.now ≡ length old.flags.now
+  pub sets : length new.sets.now ≡ length old.sets.now
+  pub ends : length new.ends.now ≡ length old.ends.now
+  pub found : length new.found.now ≡ length old.found.now
   pub arrows : length new.arrows.now ≡ length old.arrows.now
-  pub places : places_of new ≡ places_of old
 
 abbrev pub work_of : Pass → ℕ → ℕ → Option (ℕ × ℕ)
 work_of Kinds arrows places = None

@@ -2,7 +2,7 @@
 ghost use Rattle.std.specs.Prelude.{◌≡◌, length, None, Ok};
 ghost use Rattle.link.specs.declared.stage.Call.TheVariants.{Begin};
 ghost use Rattle.link.specs.Calls.{call_verdict, counted};
-ghost use Rattle.runs.specs.Made.{At, places_of, shortest, lent_to, Made, MadeOf, RunLeaves, EveryOrder, OneRun};
+ghost use Rattle.runs.specs.Made.{At, SameSizes, places_of, shortest, lent_to, Made, MadeOf, RunLeaves, EveryOrder, OneRun};
 
 use crate::work::Work;
 use faults::Fault;
@@ -118,6 +118,7 @@ pub fn run<S: ModuleSource>(
     ensures answer { result ≡ call_verdict Begin link.old.stage options (S.meaning source.now) (record { marks = length marks.old; work = None }) (Ok tt) }
     ensures calls { RunLeaves result (S.meaning source.now) options (length work.old.arrows.now) (places_of work.old) calls.old calls.new (record { link = link.old; marks = marks.old; list = list.old }) (record { link = link.new; marks = marks.new; list = list.new }) }
     ensures settles { EveryOrder result (S.meaning source.now) options calls.new marks.new }
+    ensures sizes { SameSizes work.old work.new }
 {
     link.begin(source, options, marks)?;
     for call in calls.iter_mut() {

@@ -3,7 +3,7 @@ ghost use Rattle.std.specs.Prelude.{◌≡◌, length, None, Ok};
 ghost use Rattle.link.specs.declared.stage.Call.TheVariants.{Begin};
 ghost use Rattle.link.specs.Calls.{call_verdict};
 ghost use Rattle.runs.specs.Ended.{EndLeaves, EndsSettled};
-ghost use Rattle.runs.specs.Made.{places_of};
+ghost use Rattle.runs.specs.Made.{SameSizes, places_of};
 
 use crate::calls::run;
 use crate::work::Work;
@@ -28,6 +28,7 @@ pub fn run_to_end<S: ModuleSource>(
 ) -> Result<usize, Fault>
     ensures leaves { EndLeaves (call_verdict Begin link.old.stage options (S.meaning source.now) (record { marks = length marks.old; work = None }) (Ok tt)) result (S.meaning source.now) options (length work.old.arrows.now) (places_of work.old) calls.old calls.new (record { link = link.old; marks = marks.old; list = list.old }) (record { link = link.new; marks = marks.new; list = list.new }) wrappers.old wrappers.new }
     ensures settled { EndsSettled result (S.meaning source.now) options marks.new wrappers.new }
+    ensures sizes { SameSizes work.old work.new }
 {
     run(link, source, options, marks, work, list, calls)?;
     link.finish(source, marks, wrappers)

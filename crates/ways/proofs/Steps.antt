@@ -5,7 +5,7 @@ use Rattle.std.proofs.lemmas.Bool.{not-true, eqb-false, ne_eqb, not_from_false}
 use Rattle.source.specs.declared.ImportKind.{ImportKind}
 use Rattle.source.specs.declared.ImportKind.TheVariants.{Import, Require, DynamicImport, AtImport, UrlImport, NewUrl, HotAccept}
 use Rattle.source.specs.Meaning.{Meaning, record_at}
-use Rattle.marks.specs.Records.{Points, Imports, LeadsOn, Leads}
+use Rattle.marks.specs.Records.{Points, Imports, LeadsOn}
 use Rattle.marks.specs.Records as records
 use Rattle.marks.specs.Passes.{Brings}
 use Rattle.spread.specs.declared.yes_no.YesNo.{YesNo}

@@ -6,7 +6,7 @@ use Rattle.source.specs.declared.ImportKind.TheVariants.{Require}
 use Rattle.source.specs.Meaning.{Meaning, count_of, module_at}
 use Rattle.marks.specs.declared.options.LinkOptions.{LinkOptions}
 use Rattle.marks.specs.declared.rows.MarkRow.{MarkRow}
-use Rattle.marks.specs.Passes.{Did, WrapDid, Reached, WrapStarts, CommonJsTarget, RequiredBy}
+use Rattle.marks.specs.Passes.{WrapDid, Reached, WrapStarts, RequiredBy}
 use Rattle.marks.specs.Passes as passes
 use Rattle.marks.specs.Records.{NormalAt, Mentions, Requires, LeadsOn, Leads, here, along}
 use Rattle.marks.specs.Rules.{agrees, is_wrapped, read_wrap}

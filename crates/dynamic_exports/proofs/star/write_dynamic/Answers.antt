@@ -1,11 +1,6 @@
-use Rattle.std.proofs.Common.{rules, arith}
-use Rattle.source.specs.declared.ExportsKind.TheVariants.{None as Unknown}
-use Rattle.marks.specs.Rules.{cleared}
+use Rattle.std.proofs.Common.{rules}
+use Rattle.marks.proofs.Writes.{written_front}
 use Rattle.dynamic_exports.proofs.star.write_dynamic.Goals as goal
 
 pub returns : goal.returns
-returns g c = record {
-  long = c.write_front.ensures.long;
-  each = λ m h. let e = c.write_front.ensures.each m (cleared Unknown) (omega (arith, h, c.module_count.ensures)) in search rules;
-  rest = λ m h. c.write_front.ensures.rest m (cleared Unknown) (omega (arith, h, c.module_count.ensures));
-}
+returns g c = written_front c.module_count.ensures c.write_front.ensures.long (λ m d h. let e = c.write_front.ensures.each m d h in search rules) c.write_front.ensures.rest

@@ -30,5 +30,6 @@ returns g c =
     let lawful = call_lawful Begin c.args.link.now.stage o w (record { marks = length c.args.marks.now; work = None }) (Ok tt) (sym (ap (λ (v : Verdict). is_ok v) ran.answer)) in
     record {
       leaves = subst (λ (v : Verdict). EndLeaves v c.finish.result w o arrows places c.args.calls.now c.run.new.calls old new c.args.wrappers.now c.finish.new.list) ran.answer did;
+      sizes = ran.sizes;
       settled = end_settles c.finish.result w o arrows places c.args.calls.now c.run.new.calls old new c.args.wrappers.now c.finish.new.list lawful did;
     }
