@@ -16,6 +16,7 @@ pub enum Contents {
 }
 
 /// A source of either kind, which reads what a file holds in place.
+// No `dyn`: whoever is handed a source is promised things by its type's meaning.
 #[derive(Clone, Copy)]
 pub enum OpenSource<'a> {
     Rows(RowSource<'a>),

@@ -8,7 +8,7 @@ ghost use Rattle.exports_kind.specs.Steps.{after_record, after_importer, ReadUpT
 use marks::{LinkOptions, Mark, MarkRow, OutputFormat, write_front};
 use source::{ExportsKind, ImportKind, Module, ModuleSource, NormalModule};
 
-// The first kind that is known.
+// The first kind that is known. `Option::or` has another type: `None` is a kind here.
 fn or_else(kind: ExportsKind, other: ExportsKind) -> ExportsKind
     ensures { result ≡ or_else kind other }
 {

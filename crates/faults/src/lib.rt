@@ -6,7 +6,7 @@ ghost use Rattle.faults.specs.Faults.{refusal_number, layer_name, fault, fault_t
 
 use std::fmt;
 
-/// A broken rule. `number` gives the number under which the rule is known outside.
+/// A broken rule, with the number under which it is known outside.
 #[derive(Clone, Copy, PartialEq, Eq, Debug)]
 pub enum Refusal {
     /// 1: the link's stage does not allow this call.

@@ -154,7 +154,7 @@ impl Link {
     }
 
     /// Marks the modules that wait for a top-level `await`, and writes one row for each `require` of such a module.
-    // Slices stand apart, since refusal 5 speaks of the length of each.
+    // Slices stand apart, as in every call here: a struct for this one alone would have to be put together for it.
     pub fn awaits<S: ModuleSource>(
         &mut self,
         source: &S,

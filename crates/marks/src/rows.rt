@@ -5,6 +5,7 @@ ghost use Rattle.marks.specs.Names.{helper_text};
 use source::{ExportsKind, Span};
 
 /// How a module is wrapped.
+// No `Option`: unwrapped is the first of three answers, and rows, lines and tables name each.
 #[derive(Clone, Copy, PartialEq, Eq, Debug)]
 pub enum WrapKind {
     None,
@@ -25,7 +26,7 @@ pub struct MarkRow {
     pub dynamic: bool,
     /// It waits for an `await`, its own or an import's.
     pub awaiting: bool,
-    /// The entries that lead to it, rank r as bit r.
+    /// The entries that lead to it, rank r as bit r; `EntrySet` reads them.
     pub entries: u64,
 }
 

@@ -34,6 +34,7 @@ fn ask<S: ModuleSource>(
     requires found { length work.old.found.now ≡ length work.old.facts.now }
     ensures { Made (S.meaning source.now) pass (lent_to pass (length marks.old) (length work.old.arrows.now) (length work.old.facts.now)) (length list.old) result (record { link = link.old; marks = marks.old; list = list.old }) (record { link = link.new; marks = marks.new; list = list.new }) }
 {
+    // By cases: which calls are made is data that a caller hands over.
     match pass {
         Pass::Kinds => uncounted(link.kinds(source, marks)),
         Pass::Star => uncounted(link.star(source, marks, work.facts, work.flags, work.arrows)),

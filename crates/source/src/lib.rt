@@ -11,6 +11,7 @@ pub const MODULE_LIMIT: usize = 4096;
 pub const RECORD_LIMIT: usize = 32768;
 
 /// How a module exports, as far as is known.
+// No `Option`: that nothing tells is a kind too, with a number of its own in cards and tables.
 #[derive(Clone, Copy, PartialEq, Eq, Debug)]
 pub enum ExportsKind {
     /// Neither `import`, `export` nor a use of `module` or `exports` tells.
@@ -102,6 +103,7 @@ pub struct Span {
 }
 
 /// A module of the script itself, as it was scanned.
+// No `Option<Span>` for its `await`: cards and tables give flag and place each for itself, and both are kept as given.
 #[derive(Clone, Copy, PartialEq, Eq, Debug)]
 pub struct NormalModule {
     pub scanned: ExportsKind,
@@ -118,6 +120,7 @@ pub struct NormalModule {
 }
 
 /// A module. Of an external one nothing else is known.
+// No `Option`: an external module is there, and is named so.
 #[derive(Clone, Copy, PartialEq, Eq, Debug)]
 pub enum Module {
     External,

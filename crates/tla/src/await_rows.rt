@@ -170,7 +170,7 @@ pub fn write_await_rows<S: Linkable>(
 }
 
 /// The same with one search for each module that is asked for: what a search found is known from then on.
-// Slices stand apart, since the link's refusal 5 speaks of the length of each.
+// Slices stand apart, as the link is lent them.
 pub fn write_await_rows_once<S: Linkable>(
     source: &S,
     facts: &[YesNo],

@@ -30,6 +30,7 @@ pub fn copy_imports<S: Linkable>(source: &S, ends: &mut [usize], arrows: &mut [A
                 n += 1;
             }
         }
+        // By number: places past the last module stay.
         ends[m] = n;
     }
 }

@@ -47,14 +47,11 @@ impl<'a> Memory for Remembered<'a> {
     ghost known = { λ m t. slice_index_or m.found.now t None };
 
     fn recall(&self, t: usize) -> Option<usize> {
-        if t < self.found.len() {
-            self.found[t]
-        } else {
-            None
-        }
+        self.found.get(t).copied().flatten()
     }
 
     fn keep(&mut self, t: usize, s: usize) {
+        // By number: the check proves this alone, and `get_mut` not.
         if t < self.found.len() {
             self.found[t] = Some(s);
         }

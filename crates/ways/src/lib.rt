@@ -14,6 +14,7 @@ use spread::{Arrow, Fact, spread};
 pub use targets::{Pick, clear, point_at};
 
 /// What is asked of the records: which of them lead on, and whether facts go with them or against them.
+// Cases and no closures: promises say which records lead on by the case.
 #[derive(Clone, Copy)]
 pub enum Way {
     /// Against star records: what a module's stars come to.

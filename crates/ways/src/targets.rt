@@ -8,6 +8,7 @@ use source::{ImportKind, Module, ModuleSource};
 use spread::YesNo;
 
 /// Which records raise the flag at their target.
+// Cases and no closures, as for `Way`.
 #[derive(Clone, Copy)]
 pub enum Pick {
     /// Every resolved record.
