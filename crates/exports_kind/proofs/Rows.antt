@@ -5,9 +5,10 @@ use Rattle.source.specs.declared.ExportsKind.{ExportsKind}
 use Rattle.source.specs.declared.ExportsKind.TheVariants.{None as Unknown, Esm, CommonJs}
 use Rattle.marks.specs.declared.rows.MarkRow.{MarkRow}
 use Rattle.marks.specs.declared.rows.WrapKind.{WrapKind}
-use Rattle.marks.specs.declared.rows.WrapKind.TheVariants.{None as Unwrapped, Cjs as AsCjs, Esm as AsEsm}
+use Rattle.marks.specs.declared.rows.WrapKind.TheVariants.{None as Unwrapped}
 use Rattle.marks.specs.Rules.{agrees, is_wrapped, wrap_of, read_wrap, cleared, read_row}
 use Rattle.marks.specs.Rows.{row_at, keeps_rule, Raised}
+use Rattle.marks.proofs.Writes.{reads_by_kind}
 
 -- a row reads as wrapped
 abbrev pub row_wrapped : MarkRow → Bool
@@ -31,22 +32,11 @@ wrapped_of CommonJs true = refl
 wrapped_of CommonJs false = refl
 
 -- a row as it reads is the row marked with its own kind
-reads_marked : (kind : ExportsKind) (wrap : WrapKind) → read_wrap kind wrap ≡ cond (is_wrapped (read_wrap kind wrap)) (wrap_of kind) Unwrapped
-reads_marked Unknown Unwrapped = refl
-reads_marked Unknown AsCjs = refl
-reads_marked Unknown AsEsm = refl
-reads_marked Esm Unwrapped = refl
-reads_marked Esm AsCjs = refl
-reads_marked Esm AsEsm = refl
-reads_marked CommonJs Unwrapped = refl
-reads_marked CommonJs AsCjs = refl
-reads_marked CommonJs AsEsm = refl
-
 pub read_rule : (row : MarkRow) → keeps_rule (read_row row)
-read_rule row = ap (agrees row.kind) (reads_marked row.kind row.wrap) ∙ rule_of row.kind (row_wrapped row)
+read_rule row = ap (agrees row.kind) (reads_by_kind row.kind row.wrap) ∙ rule_of row.kind (row_wrapped row)
 
 pub read_wrapped : (row : MarkRow) → row_wrapped (read_row row) ≡ row_wrapped row
-read_wrapped row = ap (λ (wrap : WrapKind). is_wrapped (read_wrap row.kind wrap)) (reads_marked row.kind row.wrap) ∙ wrapped_of row.kind (row_wrapped row)
+read_wrapped row = ap (λ (wrap : WrapKind). is_wrapped (read_wrap row.kind wrap)) (reads_by_kind row.kind row.wrap) ∙ wrapped_of row.kind (row_wrapped row)
 
 pub row_same : (rows : List MarkRow) (t : ℕ) (row : MarkRow) → t < length rows → row_at (set rows t row) t ≡ row
 row_same rows t row h = get_or-set_same rows t row (cleared Unknown) h

@@ -40,6 +40,18 @@ read_again CommonJs Unwrapped = refl
 read_again CommonJs AsCjs = refl
 read_again CommonJs AsEsm = refl
 
+-- a row reads as unwrapped or as wrapped by its kind
+pub reads_by_kind : (kind : ExportsKind) (wrap : WrapKind) → read_wrap kind wrap ≡ cond (is_wrapped (read_wrap kind wrap)) (wrap_of kind) Unwrapped
+reads_by_kind Unknown Unwrapped = refl
+reads_by_kind Esm Unwrapped = refl
+reads_by_kind CommonJs Unwrapped = refl
+reads_by_kind Unknown AsCjs = refl
+reads_by_kind Esm AsCjs = refl
+reads_by_kind CommonJs AsCjs = refl
+reads_by_kind Unknown AsEsm = refl
+reads_by_kind Esm AsEsm = refl
+reads_by_kind CommonJs AsEsm = refl
+
 -- wrapped by its kind or not, a row keeps the rule and reads as wrapped just where it was to be
 pub mark_agrees : (kind : ExportsKind) (b : Bool) → agrees kind (cond b (wrap_of kind) Unwrapped) ≡ true
 mark_agrees Unknown true = refl

@@ -9,6 +9,7 @@ use Rattle.marks.specs.declared.rows.WrapKind.TheVariants.{None as Unwrapped, Cj
 use Rattle.marks.specs.Kinds.{or_else}
 use Rattle.marks.specs.Rows.{row_at, kind_in, wrap_in, wrapped_in, Raised}
 use Rattle.marks.specs.Rules.{is_wrapped, wrap_of, read_wrap}
+use Rattle.marks.proofs.Writes.{reads_by_kind}
 
 -- what has ripened ripens no further
 pub or_else_twice : (kind made : ExportsKind) → or_else (or_else kind made) made ≡ or_else kind made
@@ -19,17 +20,6 @@ or_else_twice Esm made = refl
 or_else_twice CommonJs made = refl
 
 -- a row reads as wrapped by its kind, or as unwrapped
-pub reads_by_kind : (kind : ExportsKind) (wrap : WrapKind) → read_wrap kind wrap ≡ cond (is_wrapped (read_wrap kind wrap)) (wrap_of kind) Unwrapped
-reads_by_kind Unknown Unwrapped = refl
-reads_by_kind Esm Unwrapped = refl
-reads_by_kind CommonJs Unwrapped = refl
-reads_by_kind Unknown AsCjs = refl
-reads_by_kind Esm AsCjs = refl
-reads_by_kind CommonJs AsCjs = refl
-reads_by_kind Unknown AsEsm = refl
-reads_by_kind Esm AsEsm = refl
-reads_by_kind CommonJs AsEsm = refl
-
 pub wrap_reads : (rows : List MarkRow) (m : ℕ) (kind : ExportsKind) (b : Bool) → kind_in rows m ≡ kind → wrapped_in rows m ≡ b → wrap_in rows m ≡ cond b (wrap_of kind) Unwrapped
 wrap_reads rows m kind b k e = reads_by_kind (kind_in rows m) (row_at rows m).wrap ∙ ap (λ (v : Bool). cond v (wrap_of (kind_in rows m)) Unwrapped) e ∙ ap (λ (x : ExportsKind). cond b (wrap_of x) Unwrapped) k
 

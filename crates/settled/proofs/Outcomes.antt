@@ -15,7 +15,8 @@ use Rattle.marks.specs.Passes.{Did, SameEntries}
 use Rattle.settled.specs.Theorem.{OneOutcome}
 use Rattle.settled.proofs.Entered.{one_set}
 use Rattle.tla.proofs.Counted.{same_test}
-use Rattle.settled.proofs.Facts.{reads_by_kind, raised_is}
+use Rattle.marks.proofs.Writes.{reads_by_kind}
+use Rattle.settled.proofs.Facts.{raised_is}
 
 one_flag : {P : Type 0} {old : Bool} (a b : Bool) → Raised P old a → Raised P old b → a ≡ b
 one_flag a b r s = same_test a b (raised_is r) (raised_is s)

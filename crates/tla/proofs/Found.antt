@@ -7,8 +7,8 @@ use Rattle.marks.proofs.Records.{normal_below}
 use Rattle.ways.specs.Ways.{Targets}
 use Rattle.source.specs.Meaning.{Meaning, Proper, count_of, records_in, record_at}
 use Rattle.ways.specs.Targets.{is_require}
+use Rattle.ways.proofs.Requires.{require_is}
 use Rattle.tla.specs.Rows.{target_waits, gives_row, rows_before, row_place, row_total, Waiting, RowAt, RowsWritten, AwaitRows}
-use Rattle.tla.proofs.Looked.{require_is}
 use Rattle.tla.proofs.Places.{before_all, place_none, place_all, place_yes, place_no}
 use Rattle.tla.proofs.Targets.{has_records}
 

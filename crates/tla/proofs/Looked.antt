@@ -1,25 +1,17 @@
 -- What a look at a record says of the row that it gives. Assumes nothing.
-use Rattle.std.proofs.Common.{◌≡◌, ℕ, ◌<◌, Bool, true, false, ◌&&◌, length, Some, None, Option, sym, refl, ap, ◌∙◌, arith}
+use Rattle.std.proofs.Common.{◌≡◌, ℕ, ◌<◌, Bool, true, false, ◌&&◌, length, Some, None, Option, sym, ap, ◌∙◌, arith}
 use Rattle.std.proofs.lemmas.List.Sums.{get_or-le-sum_by}
 use Rattle.std.proofs.lemmas.Bool.{and_parts, and_right}
 use Rattle.source.specs.declared.ImportKind.{ImportKind}
-use Rattle.source.specs.declared.ImportKind.TheVariants.{Import, Require, DynamicImport, AtImport, UrlImport, NewUrl, HotAccept}
+use Rattle.source.specs.declared.ImportKind.TheVariants.{Require}
 use Rattle.source.specs.Meaning.{Meaning, Proper, Scanned, count_of, records_in, record_at, look_at, past_modules, record_total}
 use Rattle.marks.specs.Records.{Points}
 use Rattle.marks.proofs.Records.{target_looked, look_points}
 use Rattle.ways.specs.Targets.{is_require}
+use Rattle.ways.proofs.Requires.{require_is}
 use Rattle.ways.specs.Ways.{Targets}
 use Rattle.tla.specs.Rows.{target_waits, gives_row}
 use Rattle.tla.proofs.Targets.{has_records}
-
-pub require_is : (kind : ImportKind) → is_require kind ≡ true → kind ≡ Require
-require_is Import e = let z : ◌≡◌ {A = ℕ} 0 1 = cc in absurd (omega arith)
-require_is Require e = refl
-require_is DynamicImport e = let z : ◌≡◌ {A = ℕ} 0 1 = cc in absurd (omega arith)
-require_is AtImport e = let z : ◌≡◌ {A = ℕ} 0 1 = cc in absurd (omega arith)
-require_is UrlImport e = let z : ◌≡◌ {A = ℕ} 0 1 = cc in absurd (omega arith)
-require_is NewUrl e = let z : ◌≡◌ {A = ℕ} 0 1 = cc in absurd (omega arith)
-require_is HotAccept e = let z : ◌≡◌ {A = ℕ} 0 1 = cc in absurd (omega arith)
 
 pub record_below : (w : Meaning) (m k : ℕ) → m < count_of w → k < records_in w m → k < record_total w
 record_below w m k h i = omega (arith, get_or-le-sum_by (λ (s : Scanned). length s.records) w.modules m past_modules h)

@@ -4,3 +4,4 @@ pub mod Sweeps
 pub mod Pointed
 pub mod Filled
 pub mod Steps
+pub mod Requires

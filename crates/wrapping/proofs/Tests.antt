@@ -3,12 +3,10 @@ use Rattle.std.proofs.Common.{◌≡◌, ℕ, Bool, true, ◌&&◌, ◌||◌, �
 use Rattle.std.proofs.lemmas.Bool.{and_parts, and_from, or_cases, or_left, or_right}
 use Rattle.source.specs.declared.ExportsKind.{ExportsKind}
 use Rattle.source.specs.declared.ExportsKind.TheVariants.{None as Unknown, Esm, CommonJs}
-use Rattle.source.specs.declared.ImportKind.{ImportKind}
-use Rattle.source.specs.declared.ImportKind.TheVariants.{Import, Require, DynamicImport, AtImport, UrlImport, NewUrl, HotAccept}
 use Rattle.source.specs.declared.Module.{Module}
 use Rattle.source.specs.declared.Module.TheVariants.{External, Normal}
 use Rattle.source.specs.declared.NormalModule.{NormalModule}
-use Rattle.ways.specs.Targets.{is_normal, is_require}
+use Rattle.ways.specs.Targets.{is_normal}
 use Rattle.wrapping.specs.Wraps.{is_common}
 
 -- may, and p together with c, or v; c and v are tests whose answers are named c' and v'
@@ -27,15 +25,6 @@ pub common_is : (kind : ExportsKind) → is_common kind ≡ true → kind ≡ Co
 common_is Unknown e = let z : ◌≡◌ {A = ℕ} 0 1 = cc in absurd (omega arith)
 common_is Esm e = let z : ◌≡◌ {A = ℕ} 0 1 = cc in absurd (omega arith)
 common_is CommonJs e = refl
-
-pub require_is : (kind : ImportKind) → is_require kind ≡ true → kind ≡ Require
-require_is Import e = let z : ◌≡◌ {A = ℕ} 0 1 = cc in absurd (omega arith)
-require_is Require e = refl
-require_is DynamicImport e = let z : ◌≡◌ {A = ℕ} 0 1 = cc in absurd (omega arith)
-require_is AtImport e = let z : ◌≡◌ {A = ℕ} 0 1 = cc in absurd (omega arith)
-require_is UrlImport e = let z : ◌≡◌ {A = ℕ} 0 1 = cc in absurd (omega arith)
-require_is NewUrl e = let z : ◌≡◌ {A = ℕ} 0 1 = cc in absurd (omega arith)
-require_is HotAccept e = let z : ◌≡◌ {A = ℕ} 0 1 = cc in absurd (omega arith)
 
 pub module_cases : (d : Module) → (d ≡ External) ⊎ ((n : NormalModule) × (d ≡ Normal n))
 module_cases External = inl refl

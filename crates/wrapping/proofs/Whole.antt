@@ -21,7 +21,8 @@ use Rattle.ways.specs.Targets.{flag, is_normal, is_require, Filled, Cleared, Poi
 use Rattle.ways.specs.Ways.{Carried}
 use Rattle.ways.proofs.Steps.{wrappers_to, wrappers_from, carried_from, carried_to}
 use Rattle.wrapping.specs.Wraps.{MayWrap, is_common, Starts, WrappedRow}
-use Rattle.wrapping.proofs.Tests.{common_is, require_is, module_cases, normal_is}
+use Rattle.ways.proofs.Requires.{require_is}
+use Rattle.wrapping.proofs.Tests.{common_is, module_cases, normal_is}
 
 module _ (w : Meaning) (rows new : List MarkRow) (lent any none pointed starts facts between none' required : List YesNo)
     (enough : count_of w ≤ length starts)
