@@ -32,8 +32,7 @@ impl Report {
         heap: Global,
         done: Result<Report, CommandError>,
     ) -> Result<Report, AllocError>
-        requires { IfOk done Quiet }
-        ensures { IfOk result Whole }
+        ensures { IfOk done Quiet → IfOk result Whole }
     {
         match done {
             Ok(report) => Ok(report),
