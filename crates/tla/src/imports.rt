@@ -1,11 +1,18 @@
 // The imports of all modules as arrows, by where those of each module end.
 ghost use Rattle.std.specs.Prelude.{◌≡◌, ◌<◌, ◌≤◌, map, length};
 ghost use Rattle.source.specs.Meaning.{count_of, record_total};
+ghost use Rattle.ways.specs.Ways.{is_import};
 ghost use Rattle.tla.specs.Search.{imports_of, start_of, LaidByEnds};
 
 use source::ImportKind;
 use spread::Arrow;
 use ways::Linkable;
+
+fn is_import(kind: ImportKind) -> bool
+    ensures { result ≡ is_import kind }
+{
+    matches!(kind, ImportKind::Import)
+}
 
 /// Every resolved import as an arrow, in scan order; those of module m end at `ends[m]`, and begin where those of the
 /// module before end.
@@ -21,7 +28,7 @@ pub fn copy_imports<S: Linkable>(source: &S, ends: &mut [usize], arrows: &mut [A
             let Some(t) = target else {
                 continue;
             };
-            if kind == ImportKind::Import {
+            if is_import(kind) {
                 // The arrows are lent memory, so that their count stands beside them.
                 arrows[n] = Arrow {
                     from: m as u32,

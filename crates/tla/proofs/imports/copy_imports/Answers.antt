@@ -1,4 +1,4 @@
-use Rattle.std.proofs.Common.{◌≡◌, ℕ, ◌+◌, ◌<◌, ◌≤◌, List, length, set, sym, refl, ap, ◌∙◌, subst, arith, rules}
+use Rattle.std.proofs.Common.{ℕ, ◌+◌, ◌<◌, ◌≤◌, List, length, set, sym, refl, ap, ◌∙◌, subst, arith, rules}
 use Rattle.source.specs.Meaning.{count_of, records_in, record_at, record_total}
 use Rattle.marks.proofs.Records.{kind_looked, target_looked}
 use Rattle.spread.specs.declared.arrow.Arrow.{Arrow}
@@ -6,7 +6,7 @@ use Rattle.ways.specs.Ways.{is_import}
 use Rattle.tla.proofs.Copies.{Copied, so_far, so_far_all, led_none, led_other, led_one, copied_over, copied_room, copied_push}
 use Rattle.tla.proofs.Ended.{ended_more, laid_by_ends}
 use Rattle.tla.proofs.imports.copy_imports.Goals as goal
-use Rattle.tla.proofs.imports.copy_imports.Goals.{then-eq, else-eq, After-eq}
+use Rattle.tla.proofs.imports.copy_imports.Goals.{then-is_import, else-is_import}
 
 pub loop-k-preserved-in_default : goal.loop-k-preserved-in_default
 loop-k-preserved-in_default g c =
@@ -16,9 +16,6 @@ loop-k-preserved-in_default g c =
     copied_over w m k c.loop-k.arrows c.loop-k.n (omega (arith, c.module_count-m-end.ensures)) (omega (arith, c.record_count-k-end.ensures)) c.loop-k.invariant
     (led_none (is_import (record_at w m k).kind) (record_at w m k).target (sym (target_looked w m k c.look-kind.result c.look-kind.ensures) ∙ c.in_default.is))
 
-import_is : (g : _) (c : After-eq g) → c.eq.result ≡ is_import c.look-kind.result.0
-import_is g c = search rules
-
 pub bounds-arrows-n : goal.bounds-arrows-n
 bounds-arrows-n g c =
     let w = g.S.ModuleSource.meaning c.args.source.now in
@@ -27,7 +24,7 @@ bounds-arrows-n g c =
     let x = c.look-kind.result in
     let looked = c.look-kind.ensures in
     copied_room w m k c.loop-k.arrows c.loop-k.n (omega (arith, c.module_count-m-end.ensures)) (omega (arith, c.record_count-k-end.ensures)) c.loop-k.invariant c.in-Some.t
-    (led_one (is_import (record_at w m k).kind) (record_at w m k).target c.in-Some.t (ap is_import (sym (kind_looked w m k x looked)) ∙ sym (import_is g (goal.at.bounds-arrows-n g c).After-eq) ∙ c.if-eq.true) (sym (target_looked w m k x looked) ∙ c.in-Some.is))
+    (led_one (is_import (record_at w m k).kind) (record_at w m k).target c.in-Some.t (ap is_import (sym (kind_looked w m k x looked)) ∙ sym c.if-is_import.ensures) (sym (target_looked w m k x looked) ∙ c.in-Some.is))
     (omega (arith, c.requires.room, c.loop-k.auto.arrows, c.loop-m.auto.arrows))
 
 pub offset_bounds-arrows-n : goal.offset_bounds-arrows-n
@@ -49,18 +46,17 @@ loop-k-preserved g c =
     let i : k < records_in w m = omega (arith, c.record_count-k-end.ensures) in
     let room : record_total w ≤ length c.loop-k.arrows = omega (arith, c.requires.room, c.loop-k.auto.arrows, c.loop-m.auto.arrows) in
     let kind = ap is_import (sym (kind_looked w m k x looked)) in
-    let same = import_is g (goal.at.loop-k-preserved g c).After-eq in
-    elim c.if-eq.branch [
-      | then-eq v ↦
-          let one = led_one (is_import (record_at w m k).kind) (record_at w m k).target t (kind ∙ sym same ∙ v.if-eq.true) (sym (target_looked w m k x looked) ∙ c.in-Some.is) in
+    elim c.if-is_import.branch [
+      | then-is_import v ↦
+          let one = led_one (is_import (record_at w m k).kind) (record_at w m k).target t (kind ∙ sym v.if-is_import.ensures) (sym (target_looked w m k x looked) ∙ c.in-Some.is) in
           let lt = copied_room w m k c.loop-k.arrows n h i c.loop-k.invariant t one room in
-          subst (λ (rows : List Arrow). Copied (so_far w m (k + 1)) rows c.if-eq.n) (sym v.arrows-is)
+          subst (λ (rows : List Arrow). Copied (so_far w m (k + 1)) rows c.if-is_import.n) (sym v.arrows-is)
           (subst (λ (z : ℕ). Copied (so_far w m (k + 1)) (set c.loop-k.arrows n (record { from = m; to = t })) z) (sym v.n-is)
           (copied_push w m k c.loop-k.arrows n h i c.loop-k.invariant t one (record { from = m; to = t }) refl lt))
-      | else-eq v ↦
-          subst (λ (rows : List Arrow). Copied (so_far w m (k + 1)) rows c.if-eq.n) (sym v.arrows-is)
+      | else-is_import v ↦
+          subst (λ (rows : List Arrow). Copied (so_far w m (k + 1)) rows c.if-is_import.n) (sym v.arrows-is)
           (subst (λ (z : ℕ). Copied (so_far w m (k + 1)) c.loop-k.arrows z) (sym v.n-is)
-          (copied_over w m k c.loop-k.arrows n h i c.loop-k.invariant (led_other (is_import (record_at w m k).kind) (record_at w m k).target (kind ∙ sym same ∙ v.if-eq.false))))
+          (copied_over w m k c.loop-k.arrows n h i c.loop-k.invariant (led_other (is_import (record_at w m k).kind) (record_at w m k).target (kind ∙ sym v.if-is_import.ensures))))
     ]
 
 pub loop-m-preserved : goal.loop-m-preserved
