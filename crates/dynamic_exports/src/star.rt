@@ -7,12 +7,13 @@ ghost use Rattle.marks.specs.Passes.{StarDid};
 ghost use Rattle.marks.specs.Records.{HasStar};
 ghost use Rattle.marks.specs.Rows.{Written};
 ghost use Rattle.ways.specs.Targets.{Filled};
+ghost use Rattle.ways.specs.Ways.{Targets};
 ghost use Rattle.dynamic_exports.specs.Stars.{open_end, OpenAt, StarredRow};
 
 use marks::{Mark, MarkRow, write_front};
 use source::{ExportsKind, Module, ModuleSource};
 use spread::{Arrow, YesNo};
-use ways::{Linkable, Pick, Way, clear, point_at, spread_along};
+use ways::{Checked, Linkable, Pick, Way, clear, point_at, spread_linkable};
 
 // External, or of the CommonJS kind.
 // By cases, as a reader would list them.
@@ -89,9 +90,8 @@ fn write_dynamic<S: ModuleSource>(
     );
 }
 
-/// Dynamic becomes yes for the modules with a star record, or the target of one, from which star records lead to an
-/// external or CommonJS module, itself included. Circles count.
-pub fn determine_dynamic_exports<S: Linkable>(
+// The pass, over a source whose type says that its records can be followed.
+fn mark_dynamic<S: Linkable>(
     source: &S,
     rows: &mut [MarkRow],
     facts: &mut [YesNo],
@@ -105,8 +105,28 @@ pub fn determine_dynamic_exports<S: Linkable>(
     ensures { (o : LinkOptions) → StarDid (S.meaning source.now) o rows.old rows.new }
 {
     open_ends(source, rows, facts);
-    spread_along(source, Way::Stars, facts, arrows);
+    spread_linkable(source, Way::Stars, facts, arrows);
     clear(source, starred);
     point_at(source, Pick::Stars, facts, starred);
     write_dynamic(source, rows, facts, starred);
+}
+
+/// Dynamic becomes yes for the modules with a star record, or the target of one, from which star records lead to an
+/// external or CommonJS module, itself included. Circles count.
+pub fn determine_dynamic_exports<S: ModuleSource>(
+    source: &S,
+    rows: &mut [MarkRow],
+    facts: &mut [YesNo],
+    starred: &mut [YesNo],
+    arrows: &mut [Arrow],
+)
+    requires small { count_of (S.meaning source.now) ≤ 4096 }
+    requires rows { count_of (S.meaning source.now) ≤ length rows.old }
+    requires facts { count_of (S.meaning source.now) ≤ length facts.old }
+    requires starred { count_of (S.meaning source.now) ≤ length starred.old }
+    requires room { record_total (S.meaning source.now) ≤ length arrows.old }
+    requires targets { Targets (S.meaning source.now) }
+    ensures { (o : LinkOptions) → StarDid (S.meaning source.now) o rows.old rows.new }
+{
+    mark_dynamic(&Checked::new(source), rows, facts, starred, arrows);
 }

@@ -4,12 +4,13 @@ ghost use Rattle.source.specs.Meaning.{count_of, module_at, record_total};
 ghost use Rattle.marks.specs.declared.options.LinkOptions.{LinkOptions};
 ghost use Rattle.marks.specs.Passes.{EntriesDid, is_entry, rank};
 ghost use Rattle.marks.specs.Rows.{Written};
+ghost use Rattle.ways.specs.Ways.{Targets};
 ghost use Rattle.entries.specs.Starts.{Ranked, EnteredRow};
 
 use marks::{Mark, MarkRow, write_front};
 use source::{Module, ModuleSource};
 use spread::{Arrow, EntrySet, Fact};
-use ways::{Linkable, Way, spread_along};
+use ways::{Checked, Linkable, Way, spread_linkable};
 
 fn is_entry<S: ModuleSource>(source: &S, m: usize) -> bool
     ensures { result ≡ is_entry (module_at (S.meaning source.now) m) }
@@ -61,8 +62,8 @@ fn write_entries<S: ModuleSource>(source: &S, rows: &mut [MarkRow], facts: &[Ent
     );
 }
 
-/// Each module gets the set of entries, by rank, that `Import` and `Require` records lead from, itself included.
-pub fn determine_entries<S: Linkable>(
+// The pass, over a source whose type says that its records can be followed.
+fn mark_entries<S: Linkable>(
     source: &S,
     rows: &mut [MarkRow],
     facts: &mut [EntrySet],
@@ -75,6 +76,24 @@ pub fn determine_entries<S: Linkable>(
     ensures { (o : LinkOptions) → EntriesDid (S.meaning source.now) o rows.old rows.new }
 {
     entry_starts(source, facts);
-    spread_along(source, Way::Entries, facts, arrows);
+    spread_linkable(source, Way::Entries, facts, arrows);
     write_entries(source, rows, facts);
+}
+
+/// Each module gets the set of entries, by rank, that `Import` and `Require` records lead from, itself included.
+pub fn determine_entries<S: ModuleSource>(
+    source: &S,
+    rows: &mut [MarkRow],
+    facts: &mut [EntrySet],
+    arrows: &mut [Arrow],
+)
+    requires small { count_of (S.meaning source.now) ≤ 4096 }
+    requires few { rank (S.meaning source.now) (count_of (S.meaning source.now)) ≤ 64 }
+    requires rows { count_of (S.meaning source.now) ≤ length rows.old }
+    requires facts { count_of (S.meaning source.now) ≤ length facts.old }
+    requires room { record_total (S.meaning source.now) ≤ length arrows.old }
+    requires targets { Targets (S.meaning source.now) }
+    ensures { (o : LinkOptions) → EntriesDid (S.meaning source.now) o rows.old rows.new }
+{
+    mark_entries(&Checked::new(source), rows, facts, arrows);
 }

@@ -1,5 +1,6 @@
 -- A call that passes its checks is accepted, and moves the stage on. Assumes nothing.
-use Rattle.std.proofs.Common.{◌≡◌, not, is_some, Some, Ok, Option, sym, ap, ◌∙◌}
+use Rattle.std.proofs.Common.{◌≡◌, not, true≢false, is_some, is_ok, Some, Ok, Err, Option, sym, ap, ◌∙◌}
+use Rattle.faults.specs.declared.Fault.{Fault}
 use Rattle.faults.specs.declared.Refusal.TheVariants.{NotAtThisStage}
 use Rattle.faults.specs.Faults.{Verdict, refuse_if, and_then}
 use Rattle.faults.proofs.Checks.{first_passes}
@@ -21,3 +22,9 @@ module _ (call : Call) (stage next : Stage) (e : after stage call ≡ Some next)
 
   pub moves_on : next ≡ or_stay (after stage call) stage
   moves_on = sym (ap (λ (s : Option Stage). or_stay s stage) e)
+
+-- what refuses before a call's own check refuses whatever that check says
+pub refused_anyway : (a b own : Verdict) (f : Fault) → and_then a (and_then b (Ok tt)) ≡ Err f → and_then a (and_then b own) ≡ Err f
+refused_anyway (Err x) b own f e = e
+refused_anyway (Ok u) (Err x) own f e = e
+refused_anyway (Ok u) (Ok v) own f e = absurd (true≢false (ap (λ (v : Verdict). is_ok v) e))

@@ -2,7 +2,6 @@
 ghost use Rattle.std.specs.Prelude.{◌≡◌, min, length, Some, None, Ok, Err, MatchResult};
 ghost use Rattle.faults.specs.declared.Refusal.TheVariants.{NotAtThisStage};
 ghost use Rattle.marks.specs.Passes.{BeginDid, KindsDid, StarDid, WrapDid, AwaitDid, EntriesDid, FinishDid};
-ghost use Rattle.faults.specs.Faults.{Verdict};
 ghost use Rattle.lawful.specs.Lawful.{link_fault, source_verdict};
 ghost use Rattle.link.specs.declared.stage.Call.TheVariants.{Begin, Kinds, Star, Wrap, Await, Entries, Finish};
 ghost use Rattle.link.specs.declared.stage.Stage.TheVariants.{Fresh};
@@ -19,7 +18,6 @@ use marks::{AwaitRow, LinkOptions, MarkRow, OutputFormat, WrapperRow};
 use source::ModuleSource;
 use spread::{Arrow, EntrySet, YesNo};
 use tla::{count_await_rows, find_awaiting, mark_awaiting, write_await_rows_once};
-use ways::Checked;
 use wrappers::{begin_rows, count_wrappers, finish_rows, write_wrappers};
 use wrapping::wrap_modules;
 
@@ -68,7 +66,7 @@ impl Link {
         marks: usize,
         work: Option<(usize, usize)>,
     ) -> Result<Stage, Fault>
-        ensures { MatchResult result (λ next. (after self.now.stage call ≡ Some next) × (source_verdict self.now.options (S.meaning source.now) (record { marks = marks; work = work }) ≡ Ok tt)) (λ f. (own : Verdict) → call_verdict call self.now.stage self.now.options (S.meaning source.now) (record { marks = marks; work = work }) own ≡ Err f) }
+        ensures { MatchResult result (λ next. (after self.now.stage call ≡ Some next) × (source_verdict self.now.options (S.meaning source.now) (record { marks = marks; work = work }) ≡ Ok tt)) (λ f. call_verdict call self.now.stage self.now.options (S.meaning source.now) (record { marks = marks; work = work }) (Ok tt) ≡ Err f) }
     {
         let next = next_stage(self.stage, call)?;
         check_source(source, self.options, Lent { marks, work })?;
@@ -124,7 +122,6 @@ impl Link {
     {
         let work = Some((arrows.len(), facts.len().min(starred.len())));
         let stage = self.admit(Call::Star, source, marks.len(), work)?;
-        let source = &Checked::new(source);
         determine_dynamic_exports(source, marks, facts, starred, arrows);
         self.stage = stage;
         Ok(())
@@ -147,7 +144,6 @@ impl Link {
     {
         let work = Some((arrows.len(), facts.len().min(flags.len())));
         let stage = self.admit(Call::Wrap, source, marks.len(), work)?;
-        let source = &Checked::new(source);
         wrap_modules(source, marks, facts, flags, arrows);
         self.stage = stage;
         Ok(())
@@ -178,7 +174,6 @@ impl Link {
             .min(ends.len().min(found.len()));
         let work = Some((arrows.len(), shortest));
         let stage = self.admit(Call::Await, source, marks.len(), work)?;
-        let source = &Checked::new(source);
         find_awaiting(source, facts, arrows);
         if list.len() < count_await_rows(source, facts) {
             return Err(refused(Refusal::ResultsTooShort));
@@ -204,7 +199,6 @@ impl Link {
     {
         let work = Some((arrows.len(), facts.len()));
         let stage = self.admit(Call::Entries, source, marks.len(), work)?;
-        let source = &Checked::new(source);
         if count_entries(source) > 64 {
             return Err(refused(Refusal::TooManyEntries));
         }
@@ -214,6 +208,7 @@ impl Link {
     }
 
     /// Closes the link: wraps what strict order with manual groups asks for, and writes one row for each wrapper.
+    #[tactic(auto, using(crate::proofs::Accepts::refused_anyway))]
     pub fn finish<S: ModuleSource>(
         &mut self,
         source: &S,

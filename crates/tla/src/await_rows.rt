@@ -14,7 +14,7 @@ use crate::search::tla_source;
 use marks::AwaitRow;
 use source::{ImportKind, Module, ModuleSource, Span};
 use spread::{Arrow, YesNo};
-use ways::Linkable;
+use ways::{Checked, Linkable};
 
 // A record of this kind to module t is a `require` of a module that waits.
 fn gives_row(facts: &[YesNo], kind: ImportKind, t: usize) -> bool
@@ -145,14 +145,15 @@ fn write_rows<S: Linkable, M: Memory>(
     n
 }
 
-/// Writes one row for each `require` of a module that waits, in scan order, and says how many there are. The facts say
-/// which modules wait; rows past the last one stay. Each `require` has a search of its own.
-pub fn write_await_rows<S: Linkable>(
+// The rows as a memory lets them be found, over a source whose type says that its records can be followed.
+// Slices stand apart, as the link is lent them.
+fn search_rows<S: Linkable, M: Memory>(
     source: &S,
     facts: &[YesNo],
     ends: &mut [usize],
     arrows: &mut [Arrow],
     entered: &mut [YesNo],
+    memory: &mut M,
     list: &mut [AwaitRow],
 ) -> usize
     requires records { record_total (S.meaning source.now) ≤ 32768 }
@@ -161,17 +162,50 @@ pub fn write_await_rows<S: Linkable>(
     requires ends { count_of (S.meaning source.now) ≤ length ends.old }
     requires arrows { record_total (S.meaning source.now) ≤ length arrows.old }
     requires entered { count_of (S.meaning source.now) ≤ length entered.old }
+    requires known { Known (S.meaning source.now) (M.known memory.old) }
     requires room { row_total (S.meaning source.now) (flag facts.now) ≤ length list.old }
     ensures { AwaitRows (S.meaning source.now) list.old list.new result }
 {
     copy_imports(source, ends, arrows);
     let imports = Imports::new(source, ends, arrows);
-    write_rows(&imports, facts, entered, &mut Forgetful, list)
+    write_rows(&imports, facts, entered, memory, list)
+}
+
+/// Writes one row for each `require` of a module that waits, in scan order, and says how many there are. The facts say
+/// which modules wait; rows past the last one stay. Each `require` has a search of its own.
+pub fn write_await_rows<S: ModuleSource>(
+    source: &S,
+    facts: &[YesNo],
+    ends: &mut [usize],
+    arrows: &mut [Arrow],
+    entered: &mut [YesNo],
+    list: &mut [AwaitRow],
+) -> usize
+    requires small { count_of (S.meaning source.now) ≤ 4096 }
+    requires records { record_total (S.meaning source.now) ≤ 32768 }
+    requires facts { count_of (S.meaning source.now) ≤ length facts.now }
+    requires waits { Filled (count_of (S.meaning source.now)) (Awaits (S.meaning source.now)) facts.now }
+    requires ends { count_of (S.meaning source.now) ≤ length ends.old }
+    requires arrows { record_total (S.meaning source.now) ≤ length arrows.old }
+    requires entered { count_of (S.meaning source.now) ≤ length entered.old }
+    requires targets { Targets (S.meaning source.now) }
+    requires room { row_total (S.meaning source.now) (flag facts.now) ≤ length list.old }
+    ensures { AwaitRows (S.meaning source.now) list.old list.new result }
+{
+    search_rows(
+        &Checked::new(source),
+        facts,
+        ends,
+        arrows,
+        entered,
+        &mut Forgetful,
+        list,
+    )
 }
 
 /// The same with one search for each module that is asked for: what a search found is known from then on.
 // Slices stand apart, as the link is lent them.
-pub fn write_await_rows_once<S: Linkable>(
+pub fn write_await_rows_once<S: ModuleSource>(
     source: &S,
     facts: &[YesNo],
     ends: &mut [usize],
@@ -180,6 +214,7 @@ pub fn write_await_rows_once<S: Linkable>(
     found: &mut [Option<usize>],
     list: &mut [AwaitRow],
 ) -> usize
+    requires small { count_of (S.meaning source.now) ≤ 4096 }
     requires records { record_total (S.meaning source.now) ≤ 32768 }
     requires facts { count_of (S.meaning source.now) ≤ length facts.now }
     requires waits { Filled (count_of (S.meaning source.now)) (Awaits (S.meaning source.now)) facts.now }
@@ -187,11 +222,18 @@ pub fn write_await_rows_once<S: Linkable>(
     requires arrows { record_total (S.meaning source.now) ≤ length arrows.old }
     requires entered { count_of (S.meaning source.now) ≤ length entered.old }
     requires found { count_of (S.meaning source.now) ≤ length found.old }
+    requires targets { Targets (S.meaning source.now) }
     requires room { row_total (S.meaning source.now) (flag facts.now) ≤ length list.old }
     ensures { AwaitRows (S.meaning source.now) list.old list.new result }
 {
-    copy_imports(source, ends, arrows);
-    let imports = Imports::new(source, ends, arrows);
     let mut memory = Remembered::new(&mut found[..source.module_count()]);
-    write_rows(&imports, facts, entered, &mut memory, list)
+    search_rows(
+        &Checked::new(source),
+        facts,
+        ends,
+        arrows,
+        entered,
+        &mut memory,
+        list,
+    )
 }

@@ -4,12 +4,13 @@ ghost use Rattle.source.specs.Meaning.{count_of, record_total};
 ghost use Rattle.marks.specs.declared.options.LinkOptions.{LinkOptions};
 ghost use Rattle.marks.specs.Passes.{Awaits, AwaitDid};
 ghost use Rattle.ways.specs.Targets.{Filled};
+ghost use Rattle.ways.specs.Ways.{Targets};
 ghost use Rattle.tla.specs.Awaiting.{has_await, AwaitAt};
 
 use marks::{Mark, MarkRow, write_front};
 use source::{Module, ModuleSource};
 use spread::{Arrow, YesNo};
-use ways::{Linkable, Way, spread_along};
+use ways::{Checked, Linkable, Way, spread_linkable};
 
 pub fn has_await(module: Module) -> bool
     ensures { result ≡ has_await «module» }
@@ -29,15 +30,26 @@ fn own_awaits<S: ModuleSource>(source: &S, facts: &mut [YesNo])
     );
 }
 
-/// The facts become yes exactly at the normal modules from which imports lead to one with a top-level await, itself
-/// included. Circles count.
-pub fn find_awaiting<S: Linkable>(source: &S, facts: &mut [YesNo], arrows: &mut [Arrow])
+// Yes at each module that waits, over a source whose type says that its records can be followed.
+fn spread_awaits<S: Linkable>(source: &S, facts: &mut [YesNo], arrows: &mut [Arrow])
     requires facts { count_of (S.meaning source.now) ≤ length facts.old }
     requires room { record_total (S.meaning source.now) ≤ length arrows.old }
     ensures { Filled (count_of (S.meaning source.now)) (Awaits (S.meaning source.now)) facts.new }
 {
     own_awaits(source, facts);
-    spread_along(source, Way::Awaits, facts, arrows);
+    spread_linkable(source, Way::Awaits, facts, arrows);
+}
+
+/// The facts become yes exactly at the normal modules from which imports lead to one with a top-level await, itself
+/// included. Circles count.
+pub fn find_awaiting<S: ModuleSource>(source: &S, facts: &mut [YesNo], arrows: &mut [Arrow])
+    requires small { count_of (S.meaning source.now) ≤ 4096 }
+    requires facts { count_of (S.meaning source.now) ≤ length facts.old }
+    requires room { record_total (S.meaning source.now) ≤ length arrows.old }
+    requires targets { Targets (S.meaning source.now) }
+    ensures { Filled (count_of (S.meaning source.now)) (Awaits (S.meaning source.now)) facts.new }
+{
+    spread_awaits(&Checked::new(source), facts, arrows);
 }
 
 /// Writes each row whole, awaiting where it was or where the facts say so.
@@ -55,15 +67,17 @@ pub fn mark_awaiting<S: ModuleSource>(source: &S, rows: &mut [MarkRow], facts: &
 }
 
 /// Awaiting becomes yes for the modules that wait, and the facts say which they are.
-pub fn determine_awaiting<S: Linkable>(
+pub fn determine_awaiting<S: ModuleSource>(
     source: &S,
     rows: &mut [MarkRow],
     facts: &mut [YesNo],
     arrows: &mut [Arrow],
 )
+    requires small { count_of (S.meaning source.now) ≤ 4096 }
     requires rows { count_of (S.meaning source.now) ≤ length rows.old }
     requires facts { count_of (S.meaning source.now) ≤ length facts.old }
     requires room { record_total (S.meaning source.now) ≤ length arrows.old }
+    requires targets { Targets (S.meaning source.now) }
     ensures marks { (o : LinkOptions) → AwaitDid (S.meaning source.now) o rows.old rows.new }
     ensures facts { Filled (count_of (S.meaning source.now)) (Awaits (S.meaning source.now)) facts.new }
 {

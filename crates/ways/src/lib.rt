@@ -3,7 +3,7 @@
 
 ghost use Rattle.std.specs.Prelude.{◌≡◌, ◌≤◌, length};
 ghost use Rattle.source.specs.Meaning.{count_of, record_at, record_total};
-ghost use Rattle.ways.specs.Ways.{followed, drawn, Copied, Carried};
+ghost use Rattle.ways.specs.Ways.{Targets, followed, drawn, Copied, Carried};
 
 mod linkable;
 mod targets;
@@ -78,7 +78,23 @@ fn copy_arrows<S: Linkable>(source: &S, way: Way, arrows: &mut [Arrow]) -> usize
 }
 
 /// Brings each fact to wherever the records lead from its module.
-pub fn spread_along<S: Linkable, F: Fact>(
+pub fn spread_along<S: ModuleSource, F: Fact>(
+    source: &S,
+    way: Way,
+    facts: &mut [F],
+    arrows: &mut [Arrow],
+)
+    requires small { count_of (S.meaning source.now) ≤ 4096 }
+    requires facts { count_of (S.meaning source.now) ≤ length facts.old }
+    requires room { record_total (S.meaning source.now) ≤ length arrows.old }
+    requires targets { Targets (S.meaning source.now) }
+    ensures { Carried F.zero F.join way (S.meaning source.now) facts.old facts.new }
+{
+    spread_linkable(&Checked::new(source), way, facts, arrows);
+}
+
+/// The same of a source whose type says that its records can be followed.
+pub fn spread_linkable<S: Linkable, F: Fact>(
     source: &S,
     way: Way,
     facts: &mut [F],

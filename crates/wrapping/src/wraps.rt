@@ -6,12 +6,13 @@ ghost use Rattle.marks.specs.declared.options.LinkOptions.{LinkOptions};
 ghost use Rattle.marks.specs.Passes.{WrapDid};
 ghost use Rattle.marks.specs.Rows.{Written};
 ghost use Rattle.ways.specs.Targets.{Filled};
+ghost use Rattle.ways.specs.Ways.{Targets};
 ghost use Rattle.wrapping.specs.Wraps.{MayWrap, Starts, WrappedRow};
 
 use marks::{Mark, MarkRow, write_front};
 use source::{ExportsKind, Module, ModuleSource};
 use spread::{Arrow, YesNo};
-use ways::{Linkable, Pick, Way, clear, point_at, spread_along};
+use ways::{Checked, Linkable, Pick, Way, clear, point_at, spread_linkable};
 
 // A normal module but the runtime.
 fn may_wrap<S: ModuleSource>(source: &S, m: usize) -> bool
@@ -86,10 +87,8 @@ fn write_wraps<S: ModuleSource>(
     );
 }
 
-/// From normal CommonJS targets of normal modules' records, and normal modules already wrapped, the runtime aside,
-/// records lead on; the normal modules but the runtime so reached are wrapped by their kind. Required becomes yes for a
-/// normal target of a `Require`, and for an external one of a reached importer's.
-pub fn wrap_modules<S: Linkable>(
+// The pass, over a source whose type says that its records can be followed.
+fn mark_wraps<S: Linkable>(
     source: &S,
     rows: &mut [MarkRow],
     facts: &mut [YesNo],
@@ -105,8 +104,29 @@ pub fn wrap_modules<S: Linkable>(
     clear(source, flags);
     point_at(source, Pick::Every, facts, flags);
     wrap_starts(source, rows, flags, facts);
-    spread_along(source, Way::Wrappers, facts, arrows);
+    spread_linkable(source, Way::Wrappers, facts, arrows);
     clear(source, flags);
     point_at(source, Pick::Required, facts, flags);
     write_wraps(source, rows, facts, flags);
+}
+
+/// From normal CommonJS targets of normal modules' records, and normal modules already wrapped, the runtime aside,
+/// records lead on; the normal modules but the runtime so reached are wrapped by their kind. Required becomes yes for a
+/// normal target of a `Require`, and for an external one of a reached importer's.
+pub fn wrap_modules<S: ModuleSource>(
+    source: &S,
+    rows: &mut [MarkRow],
+    facts: &mut [YesNo],
+    flags: &mut [YesNo],
+    arrows: &mut [Arrow],
+)
+    requires small { count_of (S.meaning source.now) ≤ 4096 }
+    requires rows { count_of (S.meaning source.now) ≤ length rows.old }
+    requires facts { count_of (S.meaning source.now) ≤ length facts.old }
+    requires flags { count_of (S.meaning source.now) ≤ length flags.old }
+    requires room { record_total (S.meaning source.now) ≤ length arrows.old }
+    requires targets { Targets (S.meaning source.now) }
+    ensures { (o : LinkOptions) → WrapDid (S.meaning source.now) o rows.old rows.new }
+{
+    mark_wraps(&Checked::new(source), rows, facts, flags, arrows);
 }

@@ -1,6 +1,6 @@
 use Rattle.std.proofs.Common.{◌≡◌, ◌-◌, length, take, arith}
 use Rattle.ways.proofs.Turns.{leads_just, all_inside, spread_accepted}
-use Rattle.ways.proofs.spread_along.Goals as goal
+use Rattle.ways.proofs.spread_linkable.Goals as goal
 
 pub returns : goal.returns
 returns g c =

@@ -1,9 +1,13 @@
-use Rattle.std.proofs.Common.{subst}
+use Rattle.std.proofs.Common.{sym, subst}
 use Rattle.source.specs.Meaning.{count_of}
 use Rattle.ways.specs.Targets.{flag}
 use Rattle.tla.specs.Rows.{RowsWritten}
+use Rattle.tla.specs.Once.{Known}
 use Rattle.tla.proofs.Found.{all_rows}
-use Rattle.tla.proofs.await_rows.write_await_rows.Goals as goal
+use Rattle.tla.proofs.await_rows.search_rows.Goals as goal
+
+pub write_rows-requires-clause-known : goal.write_rows-requires-clause-known
+write_rows-requires-clause-known g c = subst (λ s. Known (g.S.ModuleSource.meaning s) (g.M.Memory.known c.args.memory.now)) (sym c.new-imports.ensures) c.requires.known
 
 pub returns : goal.returns
 returns g c =

@@ -6,17 +6,16 @@ use Rattle.faults.specs.declared.Fault.{Fault}
 use Rattle.faults.specs.Faults.{Verdict}
 use Rattle.ways.specs.Targets.{flag}
 use Rattle.faults.proofs.Checks.{passes, refuses}
-use Rattle.source.specs.Meaning.{Meaning, count_of, record_total}
-use Rattle.marks.specs.Passes.{AwaitDid}
+use Rattle.source.specs.Meaning.{Meaning}
 use Rattle.lawful.specs.declared.check.Lent.{Lent}
 use Rattle.lawful.specs.Lawful.{link_fault}
-use Rattle.lawful.proofs.Told.{few, worked, targeted}
-use Rattle.tla.specs.Rows.{RowCount, AwaitRows}
+use Rattle.lawful.proofs.Told.{small, few, worked, targeted}
+use Rattle.tla.specs.Rows.{RowCount}
 use Rattle.link.specs.declared.stage.Call.TheVariants.{Await}
-use Rattle.link.specs.Calls.{call_verdict, counted, AwaitAnswer, AwaitCounted}
+use Rattle.link.specs.Calls.{call_verdict, counted, AwaitAnswer}
 use Rattle.link.proofs.Accepts.{own_decides, moves_on}
 use Rattle.link.proofs.calls.Link.awaits.Goals as goal
-use Rattle.link.proofs.calls.Link.awaits.Goals.{Start, After-new}
+use Rattle.link.proofs.calls.Link.awaits.Goals.{Start}
 
 -- the stage, source and slices decide, or the call's own check does
 module _ (g : _) (c : Start g) where
@@ -37,41 +36,29 @@ returns-in_err-stage-clause-answer g c =
     let start = (goal.at.returns-in_err-stage-clause-answer g c).Start in
     let p = err_from_is_err_and c.from_residual.result c.from_residual.ensures.1 in
     let shortest : c.min-shortest.result ≡ least g start = cc in
-    refused_as g start _ _ (length c.args.list.now) c.from_residual.result (ap (verdict_at g start) (sym shortest) ∙ c.in_err-stage.ensures (Ok tt)) (p.1 ∙ ap Err p.2)
-
-pub new-requires-clause-targets : goal.new-requires-clause-targets
-new-requires-clause-targets g c = targeted c.args.self.now.options (g.S.ModuleSource.meaning c.args.source.now) (record { marks = length c.args.marks.now; work = Some (length c.args.arrows.now, c.min-shortest.result) }) c.in_ok-stage.ensures.1
-
--- what the accepted check says of the slices
-module _ (g : _) (c : After-new g) where
-  abbrev lent : Lent
-  lent = record { marks = length c.args.marks.now; work = Some (length c.args.arrows.now, c.min-shortest.result) }
-
-  work : (record_total (g.S.ModuleSource.meaning c.args.source.now) ≤ length c.args.arrows.now) × (count_of (g.S.ModuleSource.meaning c.args.source.now) ≤ c.min-shortest.result)
-  work = worked c.args.self.now.options (g.S.ModuleSource.meaning c.args.source.now) lent c.in_ok-stage.ensures.1 (length c.args.arrows.now) c.min-shortest.result refl
-
-  within : (n : ℕ) → count_of (g.S.ModuleSource.meaning c.args.source.now) ≤ n → count_of (g.S.ModuleSource.meaning c.new.result.source.now) ≤ n
-  within n h = subst (λ s. count_of (g.S.ModuleSource.meaning s) ≤ n) (sym c.new.ensures) h
-
-  room : (n : ℕ) → record_total (g.S.ModuleSource.meaning c.args.source.now) ≤ n → record_total (g.S.ModuleSource.meaning c.new.result.source.now) ≤ n
-  room n h = subst (λ s. record_total (g.S.ModuleSource.meaning s) ≤ n) (sym c.new.ensures) h
-
-  enough : record_total (g.S.ModuleSource.meaning c.new.result.source.now) ≤ 32768
-  enough = room 32768 (few c.args.self.now.options (g.S.ModuleSource.meaning c.args.source.now) lent c.in_ok-stage.ensures.1)
+    refused_as g start _ _ (length c.args.list.now) c.from_residual.result (ap (verdict_at g start) (sym shortest) ∙ c.in_err-stage.ensures) (p.1 ∙ ap Err p.2)
 
 pub find_awaiting-requires : goal.find_awaiting-requires
 find_awaiting-requires g c =
-    let at = (goal.at.find_awaiting-requires g c).After-new in
-    record { facts = within g at _ (omega (arith, (work g at).1, c.min.ensures, c.min-2.ensures, c.min-shortest.ensures)); room = room g at _ (work g at).0 }
+    let w = g.S.ModuleSource.meaning c.args.source.now in
+    let o = c.args.self.now.options in
+    let lent : Lent = record { marks = length c.args.marks.now; work = Some (length c.args.arrows.now, c.min-shortest.result) } in
+    let ok = c.in_ok-stage.ensures.1 in
+    let work = worked o w lent ok (length c.args.arrows.now) c.min-shortest.result refl in
+    record { small = small o w lent ok; facts = omega (arith, work.1, c.min-shortest.ensures); room = work.0; targets = targeted o w lent ok }
 
 pub count_await_rows-requires : goal.count_await_rows-requires
 count_await_rows-requires g c =
-    let at = (goal.at.count_await_rows-requires g c).After-new in
+    let w = g.S.ModuleSource.meaning c.args.source.now in
+    let o = c.args.self.now.options in
+    let lent : Lent = record { marks = length c.args.marks.now; work = Some (length c.args.arrows.now, c.min-shortest.result) } in
+    let ok = c.in_ok-stage.ensures.1 in
+    let work = worked o w lent ok (length c.args.arrows.now) c.min-shortest.result refl in
     record {
-      records = enough g at;
-      facts = within g at _ (omega (arith, (work g at).1, c.min.ensures, c.min-2.ensures, c.min-shortest.ensures, c.find_awaiting.auto.facts));
+      records = few o w lent ok;
+      facts = omega (arith, work.1, c.min-shortest.ensures, c.find_awaiting.auto.facts);
       waits = c.find_awaiting.ensures;
-      targets = c.new.result.targets;
+      targets = targeted o w lent ok;
     }
 
 pub returns-then-list-count_await_rows-clause-answer : goal.returns-then-list-count_await_rows-clause-answer
@@ -82,25 +69,30 @@ returns-then-list-count_await_rows-clause-answer g c =
     let list = length c.args.list.now in
     let shortest : c.min-shortest.result ≡ least g start = cc in
     let verdict = ap (verdict_at g start) (sym shortest) ∙ own_decides Await link.stage c.in_ok-stage.stage c.in_ok-stage.ensures.0 link.options (w g start) (record { marks = length c.args.marks.now; work = Some (length c.args.arrows.now, c.min-shortest.result) }) (Ok tt) c.in_ok-stage.ensures.1 in
-    subst (λ (v : Verdict). AwaitAnswer v (w g start) list (Err c.refused.result)) (sym verdict) (subst (λ s. AwaitCounted (g.S.ModuleSource.meaning s) list (Err c.refused.result)) c.new.ensures (record {
+    subst (λ (v : Verdict). AwaitAnswer v (w g start) list (Err c.refused.result)) (sym verdict) (record {
       rows = n;
       counts = (flag c.find_awaiting.new.facts, c.find_awaiting.ensures, c.count_await_rows.ensures.count);
       only = c.count_await_rows.ensures.only;
       is = ap Err c.refused.ensures ∙ sym (ap (λ (v : Verdict). counted v n) (refuses _ (link_fault ResultsTooShort 0 0) (lt-ltb list n c.if-list-count_await_rows.true)));
-    }))
+    })
 
 pub write_await_rows_once-count-requires : goal.write_await_rows_once-count-requires
 write_await_rows_once-count-requires g c =
-    let at = (goal.at.write_await_rows_once-count-requires g c).After-new in
-    let other : (n : ℕ) → c.min-shortest.result ≤ n → count_of (g.S.ModuleSource.meaning c.new.result.source.now) ≤ n = λ n h. within g at n (omega (arith, (work g at).1)) in
+    let w = g.S.ModuleSource.meaning c.args.source.now in
+    let o = c.args.self.now.options in
+    let lent : Lent = record { marks = length c.args.marks.now; work = Some (length c.args.arrows.now, c.min-shortest.result) } in
+    let ok = c.in_ok-stage.ensures.1 in
+    let work = worked o w lent ok (length c.args.arrows.now) c.min-shortest.result refl in
     record {
-      records = enough g at;
-      facts = other _ (omega (arith, c.min.ensures, c.min-2.ensures, c.min-shortest.ensures, c.find_awaiting.auto.facts));
+      small = small o w lent ok;
+      records = few o w lent ok;
+      facts = omega (arith, work.1, c.min-shortest.ensures, c.find_awaiting.auto.facts);
       waits = c.find_awaiting.ensures;
-      ends = other _ (omega (arith, c.min.ensures, c.min-2.ensures, c.min-shortest.ensures));
-      arrows = room g at _ (omega (arith, (work g at).0, c.find_awaiting.auto.arrows));
-      entered = other _ (omega (arith, c.min.ensures, c.min-2.ensures, c.min-shortest.ensures));
-      found = other _ (omega (arith, c.min.ensures, c.min-2.ensures, c.min-shortest.ensures));
+      ends = omega (arith, work.1, c.min-shortest.ensures);
+      arrows = omega (arith, work.0, c.find_awaiting.auto.arrows);
+      entered = omega (arith, work.1, c.min-shortest.ensures);
+      found = omega (arith, work.1, c.min-shortest.ensures);
+      targets = targeted o w lent ok;
       room = omega (arith, c.if-list-count_await_rows.false, c.count_await_rows.ensures.count);
     }
 
@@ -111,20 +103,20 @@ returns g c =
     let n = c.write_await_rows_once-count.result in
     let list = length c.args.list.now in
     let rows = c.write_await_rows_once-count.ensures in
-    let counts : RowCount (g.S.ModuleSource.meaning c.new.result.source.now) n = (rows.waits, rows.when, rows.count) in
+    let counts : RowCount (g.S.ModuleSource.meaning c.args.source.now) n = (rows.waits, rows.when, rows.count) in
     let only = c.count_await_rows.ensures.only in
     let fits : n ≤ list = omega (arith, only n counts, c.if-list-count_await_rows.false) in
     let shortest : c.min-shortest.result ≡ least g start = cc in
     let verdict = ap (verdict_at g start) (sym shortest) ∙ own_decides Await link.stage c.in_ok-stage.stage c.in_ok-stage.ensures.0 link.options (w g start) (record { marks = length c.args.marks.now; work = Some (length c.args.arrows.now, c.min-shortest.result) }) (Ok tt) c.in_ok-stage.ensures.1 in
     record {
-      answer = subst (λ (v : Verdict). AwaitAnswer v (w g start) list (Ok n)) (sym verdict) (subst (λ s. AwaitCounted (g.S.ModuleSource.meaning s) list (Ok n)) c.new.ensures (record {
+      answer = subst (λ (v : Verdict). AwaitAnswer v (w g start) list (Ok n)) (sym verdict) (record {
         rows = n;
         counts = counts;
         only = λ other o. only other o ∙ sym (only n counts);
         is = sym (ap (λ (v : Verdict). counted v n) (passes _ (link_fault ResultsTooShort 0 0) (le-ltb list n fits)));
-      }));
+      });
       stage = moves_on Await link.stage c.in_ok-stage.stage c.in_ok-stage.ensures.0;
       options = refl;
-      marks = subst (λ s. AwaitDid (g.S.ModuleSource.meaning s) link.options c.args.marks.now c.mark_awaiting.new.rows) c.new.ensures (c.mark_awaiting.ensures link.options);
-      list = subst (λ s. AwaitRows (g.S.ModuleSource.meaning s) c.args.list.now c.write_await_rows_once-count.new.list n) c.new.ensures rows;
+      marks = c.mark_awaiting.ensures link.options;
+      list = rows;
     }

@@ -1,23 +1,22 @@
-use Rattle.std.proofs.Common.{◌≡◌, ◌<◌, ◌≤◌, length, Some, Err, sym, refl, ap, ◌∙◌, subst, arith}
+use Rattle.std.proofs.Common.{◌<◌, ◌≤◌, length, Some, Err, sym, refl, ap, ◌∙◌, arith}
 use Rattle.std.proofs.lemmas.Bool.{le-ltb, lt-ltb}
 use Rattle.std.proofs.lemmas.Result.{err_from_is_err_and}
 use Rattle.faults.specs.declared.Refusal.TheVariants.{TooManyEntries}
 use Rattle.faults.proofs.Checks.{passes, refuses}
-use Rattle.source.specs.Meaning.{count_of, record_total}
-use Rattle.marks.specs.Passes.{EntriesDid, rank}
+use Rattle.source.specs.Meaning.{count_of}
+use Rattle.marks.specs.Passes.{rank}
 use Rattle.lawful.specs.declared.check.Lent.{Lent}
 use Rattle.lawful.specs.Lawful.{link_fault}
-use Rattle.lawful.proofs.Told.{marked, worked, targeted}
+use Rattle.lawful.proofs.Told.{small, marked, worked, targeted}
 use Rattle.link.specs.declared.stage.Call.TheVariants.{Entries}
 use Rattle.link.specs.Calls.{entries_verdict}
-use Rattle.link.proofs.Accepts.{own_decides, moves_on}
+use Rattle.link.proofs.Accepts.{own_decides, moves_on, refused_anyway}
 use Rattle.link.proofs.calls.Link.entries.Goals as goal
 
 pub returns-in_err-stage-clause-answer : goal.returns-in_err-stage-clause-answer
-returns-in_err-stage-clause-answer g c = let p = err_from_is_err_and c.from_residual.result c.from_residual.ensures.1 in p.1 ∙ ap Err p.2 ∙ sym (c.in_err-stage.ensures (entries_verdict (g.S.ModuleSource.meaning c.args.source.now)))
-
-pub new-requires-clause-targets : goal.new-requires-clause-targets
-new-requires-clause-targets g c = targeted c.args.self.now.options (g.S.ModuleSource.meaning c.args.source.now) (record { marks = length c.args.marks.now; work = Some (length c.args.arrows.now, length c.args.facts.now) }) c.in_ok-stage.ensures.1
+returns-in_err-stage-clause-answer g c =
+    let p = err_from_is_err_and c.from_residual.result c.from_residual.ensures.1 in
+    p.1 ∙ ap Err p.2 ∙ sym (refused_anyway _ _ (entries_verdict (g.S.ModuleSource.meaning c.args.source.now)) _ c.in_err-stage.ensures)
 
 pub determine_entries-requires : goal.determine_entries-requires
 determine_entries-requires g c =
@@ -26,13 +25,13 @@ determine_entries-requires g c =
     let lent : Lent = record { marks = length c.args.marks.now; work = Some (length c.args.arrows.now, length c.args.facts.now) } in
     let ok = c.in_ok-stage.ensures.1 in
     let work = worked o w lent ok (length c.args.arrows.now) (length c.args.facts.now) refl in
-    let same = sym c.new.ensures in
-    let within : (n : _) → count_of w ≤ n → count_of (g.S.ModuleSource.meaning c.new.result.source.now) ≤ n = λ n h. subst (λ s. count_of (g.S.ModuleSource.meaning s) ≤ n) same h in
     record {
+      small = small o w lent ok;
       few = omega (arith, c.count_entries.ensures);
-      rows = within _ (marked o w lent ok);
-      facts = within _ work.1;
-      room = subst (λ s. record_total (g.S.ModuleSource.meaning s) ≤ length c.args.arrows.now) same work.0;
+      rows = marked o w lent ok;
+      facts = work.1;
+      room = work.0;
+      targets = targeted o w lent ok;
     }
 
 pub returns-then-count_entries-gt64-clause-answer : goal.returns-then-count_entries-gt64-clause-answer
@@ -40,8 +39,7 @@ returns-then-count_entries-gt64-clause-answer g c =
     let w = g.S.ModuleSource.meaning c.args.source.now in
     let link = c.args.self.now in
     let lent : Lent = record { marks = length c.args.marks.now; work = Some (length c.args.arrows.now, length c.args.facts.now) } in
-    let same : c.count_entries.result ≡ rank w (count_of w) = c.count_entries.ensures ∙ ap (λ s. rank (g.S.ModuleSource.meaning s) (count_of (g.S.ModuleSource.meaning s))) c.new.ensures in
-    let many : 64 < rank w (count_of w) = omega (arith, same) in
+    let many : 64 < rank w (count_of w) = omega (arith, c.count_entries.ensures) in
     ap Err c.refused.ensures
     ∙ sym (own_decides Entries link.stage c.in_ok-stage.stage c.in_ok-stage.ensures.0 link.options w lent (entries_verdict w) c.in_ok-stage.ensures.1 ∙ refuses _ (link_fault TooManyEntries 0 0) (lt-ltb 64 (rank w (count_of w)) many))
 
@@ -51,11 +49,10 @@ returns g c =
     let link = c.args.self.now in
     let e = c.in_ok-stage.ensures.0 in
     let lent : Lent = record { marks = length c.args.marks.now; work = Some (length c.args.arrows.now, length c.args.facts.now) } in
-    let same : c.count_entries.result ≡ rank w (count_of w) = c.count_entries.ensures ∙ ap (λ s. rank (g.S.ModuleSource.meaning s) (count_of (g.S.ModuleSource.meaning s))) c.new.ensures in
-    let few : rank w (count_of w) ≤ 64 = omega (arith, same) in
+    let few : rank w (count_of w) ≤ 64 = omega (arith, c.count_entries.ensures) in
     record {
       answer = sym (own_decides Entries link.stage c.in_ok-stage.stage e link.options w lent (entries_verdict w) c.in_ok-stage.ensures.1 ∙ passes _ (link_fault TooManyEntries 0 0) (le-ltb 64 (rank w (count_of w)) few));
       stage = moves_on Entries link.stage c.in_ok-stage.stage e;
       options = refl;
-      marks = subst (λ s. EntriesDid (g.S.ModuleSource.meaning s) link.options c.args.marks.now c.determine_entries.new.rows) c.new.ensures (c.determine_entries.ensures link.options);
+      marks = c.determine_entries.ensures link.options;
     }

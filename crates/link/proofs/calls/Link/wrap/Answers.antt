@@ -1,9 +1,7 @@
-use Rattle.std.proofs.Common.{ℕ, ◌≤◌, length, Some, Ok, Err, sym, refl, ap, ◌∙◌, subst, arith}
+use Rattle.std.proofs.Common.{ℕ, length, Some, Ok, Err, sym, refl, ap, ◌∙◌, arith}
 use Rattle.std.proofs.lemmas.Result.{err_from_is_err_and}
-use Rattle.source.specs.Meaning.{count_of, record_total}
 use Rattle.lawful.specs.declared.check.Lent.{Lent}
-use Rattle.lawful.proofs.Told.{marked, worked, targeted}
-use Rattle.marks.specs.Passes.{WrapDid}
+use Rattle.lawful.proofs.Told.{small, marked, worked, targeted}
 use Rattle.link.specs.declared.stage.Call.TheVariants.{Wrap}
 use Rattle.link.specs.Calls.{call_verdict}
 use Rattle.link.proofs.Accepts.{own_decides, moves_on}
@@ -14,27 +12,23 @@ returns-in_err-stage-clause-answer g c =
     let w = g.S.ModuleSource.meaning c.args.source.now in
     let link = c.args.self.now in
     let p = err_from_is_err_and c.from_residual.result c.from_residual.ensures.1 in
-    p.1 ∙ ap Err p.2 ∙ sym (c.in_err-stage.ensures (Ok tt))
+    p.1 ∙ ap Err p.2 ∙ sym (c.in_err-stage.ensures)
     ∙ ap (λ (n : ℕ). call_verdict Wrap link.stage link.options w (record { marks = length c.args.marks.now; work = Some (length c.args.arrows.now, n) }) (Ok tt)) c.min.ensures
-
-pub new-requires-clause-targets : goal.new-requires-clause-targets
-new-requires-clause-targets g c = targeted c.args.self.now.options (g.S.ModuleSource.meaning c.args.source.now) (record { marks = length c.args.marks.now; work = Some (length c.args.arrows.now, c.min.result) }) c.in_ok-stage.ensures.1
 
 pub wrap_modules-requires : goal.wrap_modules-requires
 wrap_modules-requires g c =
     let w = g.S.ModuleSource.meaning c.args.source.now in
     let o = c.args.self.now.options in
-    let shortest = c.min.result in
-    let lent : Lent = record { marks = length c.args.marks.now; work = Some (length c.args.arrows.now, shortest) } in
+    let lent : Lent = record { marks = length c.args.marks.now; work = Some (length c.args.arrows.now, c.min.result) } in
     let ok = c.in_ok-stage.ensures.1 in
-    let work = worked o w lent ok (length c.args.arrows.now) shortest refl in
-    let same = sym c.new.ensures in
-    let within : (n : ℕ) → count_of w ≤ n → count_of (g.S.ModuleSource.meaning c.new.result.source.now) ≤ n = λ n h. subst (λ s. count_of (g.S.ModuleSource.meaning s) ≤ n) same h in
+    let work = worked o w lent ok (length c.args.arrows.now) c.min.result refl in
     record {
-      rows = within _ (marked o w lent ok);
-      facts = within _ (omega (arith, work.1, c.min.ensures));
-      flags = within _ (omega (arith, work.1, c.min.ensures));
-      room = subst (λ s. record_total (g.S.ModuleSource.meaning s) ≤ length c.args.arrows.now) same work.0;
+      small = small o w lent ok;
+      rows = marked o w lent ok;
+      facts = omega (arith, work.1, c.min.ensures);
+      flags = omega (arith, work.1, c.min.ensures);
+      room = work.0;
+      targets = targeted o w lent ok;
     }
 
 pub returns : goal.returns
@@ -47,5 +41,5 @@ returns g c =
       answer = sym (ap (λ (n : ℕ). call_verdict Wrap link.stage link.options w (lent n) (Ok tt)) (sym c.min.ensures) ∙ own_decides Wrap link.stage c.in_ok-stage.stage e link.options w (lent c.min.result) (Ok tt) c.in_ok-stage.ensures.1);
       stage = moves_on Wrap link.stage c.in_ok-stage.stage e;
       options = refl;
-      marks = subst (λ s. WrapDid (g.S.ModuleSource.meaning s) link.options c.args.marks.now c.wrap_modules.new.rows) c.new.ensures (c.wrap_modules.ensures link.options);
+      marks = c.wrap_modules.ensures link.options;
     }
