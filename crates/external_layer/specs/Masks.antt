@@ -2,6 +2,7 @@
 --
 --   masked_length    as many modules as below
 --   layered_at       a module of the layer: external where it is held, else as below
+--   layered_held, layered_free   so every question about a module is answered as of an external one, or as below
 --   layered_proper   the layer's meaning is proper where the meaning below is
 use Rattle.std.specs.Prelude.{◌≡◌, ℕ, zero, suc, ◌+◌, ◌-◌, ◌^◌, ◌<◌, Bool, true, false, cond, List, [], ◌∷◌, length, get_or, Some, slice_index_or, refl}
 use Rattle.std.proofs.Common.{sym, ap, subst, ◌∙◌, add-zero, arith}
@@ -28,6 +29,14 @@ pub layered_at : (hs : List ℕ) (w : Meaning) (m : ℕ) → scanned_at (layered
 layered_at hs w m =
     let e : 0 + m ≡ m = omega arith in
     masked_at hs 0 w.modules m ∙ ap (λ (j : ℕ). cond (held_in hs j) past_modules (scanned_at w m)) e
+
+-- whatever is asked of a module
+module _ {A : Type 0} (ask : Scanned → A) (hs : List ℕ) (w : Meaning) (m : ℕ) where
+  pub layered_held : true ≡ held_in hs m → ask past_modules ≡ ask (scanned_at (layered hs w) m)
+  layered_held e = ap (λ (b : Bool). ask (cond b past_modules (scanned_at w m))) e ∙ ap ask (sym (layered_at hs w m))
+
+  pub layered_free : false ≡ held_in hs m → ask (scanned_at w m) ≡ ask (scanned_at (layered hs w) m)
+  layered_free e = ap (λ (b : Bool). ask (cond b past_modules (scanned_at w m))) e ∙ ap ask (sym (layered_at hs w m))
 
 -- what each module must be for the meaning to be proper
 abbrev Fine : Scanned → Type 0

@@ -115,7 +115,8 @@ impl<'a, S: ModuleSource> Question<'a, S> {
     fn check_rows(&self, imports: &[ImportRow]) -> Result<(), Fault>
         ensures { result ≡ rows_verdict (S.meaning self.now.source.now) self.now.observers.now imports.now }
     {
-        self.check_observers().and(self.check_imports(imports))
+        self.check_observers()?; // Where this refuses, no import row is looked at.
+        self.check_imports(imports)
     }
 
     /// What the namespace was seen to be used for by modules that could be in the chunk; none where there is no such module.

@@ -57,8 +57,6 @@ impl Fact for EntrySet {
 
     ghost join = { union };
 
-    ghost exact = { Prim.search rules };
-
     ghost assoc = { λ x y z. ap {B = EntrySet} (λ n. record { 0 = n }) (or_assoc x.0 y.0 z.0) };
 
     ghost comm = { λ x y. ap {B = EntrySet} (λ n. record { 0 = n }) (or_comm x.0 y.0) };
@@ -73,5 +71,9 @@ impl Fact for EntrySet {
 
     fn joined(self, other: EntrySet) -> EntrySet {
         EntrySet(self.0 | other.0)
+    }
+
+    fn same(self, other: EntrySet) -> bool {
+        self.0 == other.0
     }
 }

@@ -1,9 +1,9 @@
 // What a kind of fact is.
-ghost use Rattle.std.specs.Prelude.{◌≡◌, ◌↔◌, true};
+ghost use Rattle.std.specs.Prelude.{◌≡◌, true};
 
 /// Facts that can be joined: a value with a least one, `zero`, and a `join` of any two, which alters neither.
 /// Two facts are equal where they are the same value.
-pub trait Fact: Copy + PartialEq {
+pub trait Fact: Copy {
     ghost zero: { Self };
 
     ghost join: { Self → Self → Self };
@@ -14,8 +14,9 @@ pub trait Fact: Copy + PartialEq {
     fn joined(self, other: Self) -> Self
         ensures { result ≡ join self other };
 
-    // `==` says whether two facts are the same value.
-    ghost exact: { (x y : Self) → (Self.eq x y ≡ true) ↔ (x ≡ y) };
+    fn same(self, other: Self) -> bool
+        ensures sound { result ≡ true → self ≡ other }
+        ensures full { self ≡ other → result ≡ true };
 
     ghost assoc: { (x y z : Self) → join (join x y) z ≡ join x (join y z) };
 

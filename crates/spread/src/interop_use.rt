@@ -17,8 +17,6 @@ impl Fact for Option<InteropUse> {
 
     ghost join = { use_join };
 
-    ghost exact = { Prim.search rules };
-
     ghost assoc = { Prim.search rules };
 
     ghost comm = { Prim.search rules };
@@ -40,5 +38,9 @@ impl Fact for Option<InteropUse> {
                 non_node: a.non_node | b.non_node,
             }),
         }
+    }
+
+    fn same(self, other: Option<InteropUse>) -> bool {
+        self == other
     }
 }

@@ -38,7 +38,7 @@ fn carry<F: Fact>(facts: &mut [F], arrow: Arrow) -> bool
     let old = facts[to];
     let new = old.joined(facts[arrow.from as usize]);
     facts[to] = new;
-    old != new
+    !old.same(new)
 }
 
 // Takes each arrow once, first to last, and says whether a fact changed.

@@ -13,8 +13,6 @@ impl Fact for YesNo {
 
     ghost join = { either };
 
-    ghost exact = { Prim.search rules };
-
     ghost assoc = { Prim.search rules };
 
     ghost comm = { Prim.search rules };
@@ -30,5 +28,9 @@ impl Fact for YesNo {
     // As for entry sets: one impl for both would need a trait of what can be or-ed.
     fn joined(self, other: YesNo) -> YesNo {
         YesNo(self.0 | other.0)
+    }
+
+    fn same(self, other: YesNo) -> bool {
+        self == other
     }
 }

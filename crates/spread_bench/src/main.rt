@@ -174,7 +174,7 @@ fn measure<F: Fact + Drop>(
     for _ in 0..ROUNDS {
         let mut facts = starts(heap, place, first)?;
         let _ = spread(facts.as_mut_slice(), arrows.as_slice());
-        reached = facts.iter().filter(|fact| **fact == first).count();
+        reached = facts.iter().filter(|fact| fact.same(first)).count();
     }
     let micros = begun.elapsed(rt)?.as_micros() / 20;
     let rows = arrows.len();

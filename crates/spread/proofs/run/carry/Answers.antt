@@ -1,4 +1,3 @@
-use Rattle.std.proofs.Common.{sym, ◌∙◌}
 use Rattle.std.proofs.lemmas.List.{get_or_read}
 use Rattle.std.proofs.lemmas.Bool.{not-false}
 use Rattle.spread.proofs.Steps.{carried_is, carried_same}
@@ -13,5 +12,5 @@ returns g c =
     let from = get_or_read xs a.from c.index-facts-arrow.result c.requires.0 c.index-facts-arrow.is z in
     record {
       writes = carried_is z g.F.Fact.join xs a c.index-facts-to.result c.index-facts-arrow.result c.joined-new.result old from c.joined-new.ensures;
-      still = λ e. carried_same z g.F.Fact.join xs a c.index-facts-to.result c.joined-new.result old ((g.met.F.Fact.exact c.index-facts-to.result c.joined-new.result).0 (not-false _ (sym c.ne.ensures ∙ e)));
+      still = λ e. carried_same z g.F.Fact.join xs a c.index-facts-to.result c.joined-new.result old (c.same.ensures.sound (not-false _ e));
     }
