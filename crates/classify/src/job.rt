@@ -3,8 +3,7 @@ ghost use Rattle.std.specs.Prelude.{IfOk};
 ghost use Rattle.classify.specs.Jobs.{Settles, Small};
 
 use marks::{AwaitRow, LinkOptions, MarkRow, WrapperRow};
-use run_list::{ListError, run_list};
-use settled::Pass;
+use run_list::{ListError, run_job};
 use source::ModuleSource;
 use std::alloc::Global;
 
@@ -16,14 +15,6 @@ pub struct Classified {
     pub wrappers: Vec<WrapperRow>,
 }
 
-const PASSES: [Pass; 5] = [
-    Pass::Kinds,
-    Pass::Star,
-    Pass::Wrap,
-    Pass::Entries,
-    Pass::Await,
-];
-
 /// Every mark and row that the link settles, or why there is none.
 pub fn classify<S: ModuleSource>(
     heap: Global,
@@ -33,10 +24,7 @@ pub fn classify<S: ModuleSource>(
     ensures small { IfOk result Small }
     ensures settled { IfOk result (Settles (S.meaning source.now) options) }
 {
-    let done = run_list(heap, source, options, &PASSES)?;
-    if let Some(fault) = done.refused_pass() {
-        return Err(fault.into());
-    }
+    let done = run_job(heap, source, options)?;
     done.finish?;
     Ok(Classified {
         marks: done.marks,

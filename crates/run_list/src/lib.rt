@@ -5,4 +5,4 @@ mod error;
 mod lists;
 
 pub use error::ListError;
-pub use lists::{ListRun, run_list};
+pub use lists::{ListRun, Rows, run_job, run_list};

@@ -1,10 +1,15 @@
 // Begin, a list of calls and finish, one after another.
-ghost use Rattle.std.specs.Prelude.{◌≤◌, IfOk};
+ghost use Rattle.std.specs.Prelude.{◌≡◌, ◌≤◌, length, None, vec_items, IfOk};
+ghost use Rattle.faults.specs.Faults.{and_then};
+ghost use Rattle.lawful.specs.Lawful.{source_verdict};
+ghost use Rattle.link.specs.Calls.{entries_verdict};
 ghost use Rattle.runs.specs.Ended.{EndsSettled};
-ghost use Rattle.run_list.specs.Lists.{Settles, Small};
+ghost use Rattle.run_list.specs.Lists.{FewRows, RowsSettle, Settles, Small};
 
 use crate::error::ListError;
-use faults::{Fault, Refusal};
+use entries::count_entries;
+use faults::{Fault, Layer, Refusal};
+use lawful::{Lent, check_source};
 use link::Link;
 use marks::{AwaitRow, Helper, LinkOptions, MarkRow, WrapKind, WrapperRow};
 use runs::{Work, run_to_end};
@@ -19,6 +24,16 @@ pub struct ListRun {
     pub marks: Vec<MarkRow>,
     /// The calls in their order, each with its answer.
     pub calls: Vec<Asked>,
+    pub awaits: Vec<AwaitRow>,
+    /// How many wrappers there are, or why finish was refused.
+    pub finish: Result<usize, Fault>,
+    pub wrappers: Vec<WrapperRow>,
+}
+
+/// What calls came to, but for their answers: the rows of a `ListRun`.
+#[derive(Drop)]
+pub struct Rows {
+    pub marks: Vec<MarkRow>,
     pub awaits: Vec<AwaitRow>,
     /// How many wrappers there are, or why finish was refused.
     pub finish: Result<usize, Fault>,
@@ -84,7 +99,9 @@ fn records_of<S: ModuleSource>(source: &S) -> usize
 }
 
 impl Memory {
-    fn sized(heap: Global, modules: usize, records: usize) -> Result<Memory, AllocError> {
+    fn sized(heap: Global, modules: usize, records: usize) -> Result<Memory, AllocError>
+        ensures { IfOk result (λ memory. length (vec_items memory.arrows) ≡ records) }
+    {
         Ok(Memory {
             facts: vec![in heap; YesNo(false); modules]?,
             flags: vec![in heap; YesNo(false); modules]?,
@@ -146,6 +163,44 @@ fn run_calls<S: ModuleSource>(
     )
 }
 
+// Asks for await rows and wrapper rows, begins, makes the calls and finishes.
+fn run_over<S: ModuleSource>(
+    heap: Global,
+    source: &S,
+    options: LinkOptions,
+    mut marks: Vec<MarkRow>,
+    mut memory: Memory,
+    calls: &mut [Asked],
+) -> Result<Rows, ListError>
+    requires modules { length (vec_items marks) ≤ 4096 }
+    requires records { length (vec_items memory.arrows) ≤ 32768 }
+    ensures small { IfOk result FewRows }
+    ensures settled { IfOk result (RowsSettle (S.meaning source.now) options) }
+{
+    let mut awaits = vec![in heap; blank_await(); memory.arrows.len()]?;
+    let mut wrappers = vec![in heap; blank_wrapper(); marks.len()]?;
+    let finish = run_calls(
+        source,
+        options,
+        marks.as_mut_slice(),
+        &mut memory,
+        awaits.as_mut_slice(),
+        calls,
+        wrappers.as_mut_slice(),
+    );
+    if let Some(fault) = refused_begin(finish) {
+        return Err(fault.into());
+    }
+    awaits.truncate(await_rows(calls));
+    wrappers.truncate(finish.unwrap_or(0));
+    Ok(Rows {
+        marks,
+        awaits,
+        finish,
+        wrappers,
+    })
+}
+
 /// Begins, makes these calls one after another, and then finish. Where begin is refused there is nothing else.
 pub fn run_list<S: ModuleSource>(
     heap: Global,
@@ -157,33 +212,56 @@ pub fn run_list<S: ModuleSource>(
     ensures settled { IfOk result (Settles (S.meaning source.now) options) }
 {
     let modules = modules_of(source);
-    let records = records_of(source);
-    let mut marks = vec![in heap; blank_mark(); modules]?;
-    let mut memory = Memory::sized(heap, modules, records)?;
-    let mut awaits = vec![in heap; blank_await(); records]?;
-    let mut wrappers = vec![in heap; blank_wrapper(); modules]?;
+    let marks = vec![in heap; blank_mark(); modules]?;
+    let memory = Memory::sized(heap, modules, records_of(source))?;
     let mut calls = asked_all(heap, passes)?;
-    let finish = run_calls(
-        source,
-        options,
-        marks.as_mut_slice(),
-        &mut memory,
-        awaits.as_mut_slice(),
-        calls.as_mut_slice(),
-        wrappers.as_mut_slice(),
-    );
-    if let Some(fault) = refused_begin(finish) {
-        return Err(fault.into());
-    }
-    awaits.truncate(await_rows(calls.as_slice()));
-    wrappers.truncate(finish.unwrap_or(0));
+    let rows = run_over(heap, source, options, marks, memory, calls.as_mut_slice())?;
     Ok(ListRun {
-        marks,
+        marks: rows.marks,
         calls,
-        awaits,
-        finish,
-        wrappers,
+        awaits: rows.awaits,
+        finish: rows.finish,
+        wrappers: rows.wrappers,
     })
+}
+
+// What begin would refuse, and that there are more entries than entries could tell apart.
+fn check_job<S: ModuleSource>(source: &S, options: LinkOptions, marks: usize) -> Result<(), Fault>
+    ensures { result ≡ and_then (source_verdict options (S.meaning source.now) (record { marks = marks; work = None })) (entries_verdict (S.meaning source.now)) }
+{
+    check_source(source, options, Lent { marks, work: None })?;
+    if count_entries(source) > 64 {
+        return Err(Refusal::TooManyEntries.found_by(Layer::Link, 0, 0));
+    }
+    Ok(())
+}
+
+/// Begins, makes all five passes and finishes. What begin refuses, and too many entries, is refused before any pass, and
+/// before memory for await rows and wrapper rows is asked for.
+pub fn run_job<S: ModuleSource>(
+    heap: Global,
+    source: &S,
+    options: LinkOptions,
+) -> Result<Rows, ListError>
+    ensures small { IfOk result FewRows }
+    ensures settled { IfOk result (RowsSettle (S.meaning source.now) options) }
+{
+    let modules = modules_of(source);
+    let marks = vec![in heap; blank_mark(); modules]?;
+    let memory = Memory::sized(heap, modules, records_of(source))?;
+    check_job(source, options, modules)?;
+    let mut calls = [
+        asked(Pass::Kinds),
+        asked(Pass::Star),
+        asked(Pass::Wrap),
+        asked(Pass::Entries),
+        asked(Pass::Await),
+    ];
+    let rows = run_over(heap, source, options, marks, memory, &mut calls)?;
+    match refused_call(&calls) {
+        Some(fault) => Err(fault.into()),
+        None => Ok(rows),
+    }
 }
 
 // Finish makes begin's checks of the same source again and has room for every wrapper, so it can only be refused for the
@@ -194,9 +272,14 @@ fn refused_begin(answer: Result<usize, Fault>) -> Option<Fault> {
         .filter(|fault| fault.refusal != Refusal::NotAtThisStage)
 }
 
+// Why the first refused call was refused, if one was.
+fn refused_call(calls: &[Asked]) -> Option<Fault> {
+    calls.iter().find_map(|call| call.answer?.err())
+}
+
 impl ListRun {
     /// Why the first refused pass was refused, if one was.
     pub fn refused_pass(&self) -> Option<Fault> {
-        self.calls.iter().find_map(|call| call.answer?.err())
+        refused_call(self.calls.as_slice())
     }
 }
