@@ -2,7 +2,7 @@
 // whether two files are equal.
 #![tactic(auto)]
 
-use commands::run;
+use commands::{ToldRun, run};
 use std::fs;
 use table_words::{Worded, owned_words};
 
@@ -21,7 +21,11 @@ fn main(rt: HostRuntime) -> anyhow::Result<()> {
         match words.as_slice() {
             [same, a, b] if same.as_str() == "same" => print_same(&rt, a.as_str(), b.as_str())?,
             words => {
-                let told = run(&rt, words)?.told(heap, line.as_str())?;
+                let report = run(&rt, words)?;
+                let told = ToldRun {
+                    words: line.as_str(),
+                    report: &report,
+                };
                 print!(rt; "{told}")?;
             }
         }

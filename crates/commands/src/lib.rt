@@ -13,5 +13,5 @@ pub use dispatch::run;
 pub use errors::{CommandError, in_file};
 pub use files::read_contents;
 pub use refused::Refused;
-pub use report::Report;
+pub use report::{Report, ToldRun};
 pub use sources::{Contents, OpenSource};

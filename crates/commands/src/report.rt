@@ -1,9 +1,10 @@
 // What a run has to say.
-ghost use Rattle.std.specs.Prelude.{◌≡◌, IfOk, string_bytes};
+ghost use Rattle.std.specs.Prelude.{◌≡◌, Some, IfOk, string_bytes};
 ghost use Rattle.commands.specs.Reports.{Quiet, Whole, status, run_text};
 
 use crate::errors::CommandError;
 use std::alloc::{AllocError, Global};
+use std::fmt;
 
 /// What goes to standard output and to standard error, and whether the status is 1: a flag, since a refusal can go to either.
 #[derive(Drop)]
@@ -56,9 +57,29 @@ impl Report {
     pub fn told(&self, heap: Global, words: &str) -> Result<String, AllocError>
         ensures { IfOk result (λ text. string_bytes text ≡ run_text words.now self.now) }
     {
-        let out = self.out.as_str();
-        let err = self.err.as_str();
-        let status = self.status();
-        format!(in heap; "$ tuchovai {words}\n{out}{err}status {status}\n")
+        let run = ToldRun {
+            words,
+            report: self,
+        };
+        format!(in heap; "{run}")
+    }
+}
+
+/// A run with these words, which prints itself as it is told, with no memory of its own.
+#[derive(Clone, Copy)]
+pub struct ToldRun<'a> {
+    pub words: &'a str,
+    pub report: &'a Report,
+}
+
+impl<'a> fmt::Display for ToldRun<'a> {
+    ghost output = { λ t. Some (run_text t.words.now t.report.now) };
+
+    fn fmt<W: fmt::Write>(&self, f: &mut fmt::Formatter<W>) -> fmt::Result {
+        let words = self.words;
+        let out = self.report.out.as_str();
+        let err = self.report.err.as_str();
+        let status = self.report.status();
+        write!(f, "$ tuchovai {words}\n{out}{err}status {status}\n")
     }
 }

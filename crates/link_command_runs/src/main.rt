@@ -1,6 +1,7 @@
 // Runs of the program's `link` and `dot`, one for each line of standard input, with what each says and its status.
 #![tactic(auto)]
 
+use commands::ToldRun;
 use link_commands::run;
 use table_words::owned_words;
 
@@ -9,7 +10,11 @@ fn main(rt: HostRuntime) -> anyhow::Result<()> {
     for line in rt.lines(heap) {
         let line = line?;
         let words = owned_words(heap, line.as_str())?;
-        let told = run(&rt, words.as_slice())?.told(heap, line.as_str())?;
+        let report = run(&rt, words.as_slice())?;
+        let told = ToldRun {
+            words: line.as_str(),
+            report: &report,
+        };
         print!(rt; "{told}")?;
     }
     Ok(())
